@@ -1,0 +1,17 @@
+//! What every crate of the engine stands on: owned lists that contracts see as lists, the one
+//! answer for want of memory, places in a script, refusals, and a counter of steps.
+#![tactic(auto)]
+
+mod boxed;
+mod list;
+mod no_memory;
+mod refusal;
+mod span;
+mod steps;
+
+pub use boxed::Boxed;
+pub use list::{List, Text, Weights};
+pub use no_memory::NoMemory;
+pub use refusal::{FileRefusal, Refusal};
+pub use span::Span;
+pub use steps::Steps;
