@@ -5,6 +5,7 @@
 mod boxed;
 mod list;
 mod no_memory;
+mod outside;
 mod refusal;
 mod span;
 mod steps;
@@ -12,6 +13,7 @@ mod steps;
 pub use boxed::Boxed;
 pub use list::{List, Text, Weights};
 pub use no_memory::NoMemory;
+pub use outside::{Files, OpenAnswer, PutAnswer, ReadAnswer, Sink};
 pub use refusal::{FileRefusal, Refusal};
 pub use span::Span;
 pub use steps::Steps;
