@@ -9,6 +9,7 @@ mod outside;
 mod refusal;
 mod span;
 mod steps;
+mod whole;
 
 pub use boxed::Boxed;
 pub use list::{List, Text, Weights};
@@ -17,3 +18,4 @@ pub use outside::{Files, OpenAnswer, PutAnswer, ReadAnswer, Sink};
 pub use refusal::{FileRefusal, Refusal};
 pub use span::Span;
 pub use steps::Steps;
+pub use whole::{ReadWhole, read_whole};
