@@ -3,7 +3,9 @@
 #![tactic(auto)]
 
 mod boxed;
+mod fault_plan;
 mod list;
+mod mem_sink;
 mod no_memory;
 mod outside;
 mod refusal;
@@ -13,6 +15,7 @@ mod whole;
 
 pub use boxed::Boxed;
 pub use list::{List, Text, Weights};
+pub use mem_sink::MemSink;
 pub use no_memory::NoMemory;
 pub use outside::{Files, OpenAnswer, PutAnswer, ReadAnswer, Sink};
 pub use refusal::{FileRefusal, Refusal};
