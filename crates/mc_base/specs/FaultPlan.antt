@@ -21,5 +21,5 @@ abbrev pub counted : Plan → Plan
 counted plan = record {
   fail = plan.fail;
   calls = next_count plan.calls;
-  faults = if fails_now plan then next_count plan.faults else plan.faults
+  faults = if fails_now plan then next_count plan.faults else plan.faults;
 }

@@ -4,3 +4,5 @@ pub mod Sink
 pub mod Whole
 pub mod FaultPlan
 pub mod MemSink
+pub mod MemFiles
+pub mod Cursor

@@ -5,6 +5,7 @@
 mod boxed;
 mod fault_plan;
 mod list;
+mod mem_files;
 mod mem_sink;
 mod no_memory;
 mod outside;
@@ -15,6 +16,7 @@ mod whole;
 
 pub use boxed::Boxed;
 pub use list::{List, Text, Weights};
+pub use mem_files::MemFiles;
 pub use mem_sink::MemSink;
 pub use no_memory::NoMemory;
 pub use outside::{Files, OpenAnswer, PutAnswer, ReadAnswer, Sink};
