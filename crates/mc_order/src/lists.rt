@@ -1,0 +1,66 @@
+ghost use Rattle.mc_order.specs.Order.{IsOrder, order_to_end, list_order};
+ghost use Rattle.mc_order.specs.declared.pad.Pad.{Pad as Padding};
+ghost use Rattle.std.specs.Cmp.{IsTotalOrder};
+ghost use Rattle.std.specs.Prelude.{◌≡◌, ◌⊎◌, ℕ, List, length};
+
+use crate::Pad;
+use std::cmp::Ordering;
+
+/// The order of two lists of weights: `pad` says whether both count as prolonged by `space`, the
+/// weight of U+0020, without end (MySQL 8.0 manual, 10.8.5). Without padding a list stands behind
+/// each of its proper prefixes, and `space` isn't used.
+#[tactic(auto, using(crate::proofs::Order::facts))]
+pub fn compare_lists(a: &[u32], b: &[u32], pad: Pad, space: u32) -> Ordering
+    ensures { result ≡ list_order pad space a.now b.now }
+{
+    let shared = a.len().min(b.len());
+    match a[..shared].cmp(&b[..shared]) {
+        Ordering::Equal => order_behind(&a[shared..], &b[shared..], pad, space),
+        differs => differs,
+    }
+}
+
+/// The order of two lists, one of them empty.
+#[tactic(auto, using(crate::proofs::Order::facts))]
+fn order_behind(a: &[u32], b: &[u32], pad: Pad, space: u32) -> Ordering
+    requires { (length a.now ≡ 0) ⊎ (length b.now ≡ 0) }
+    ensures { result ≡ list_order pad space a.now b.now }
+{
+    if a.is_empty() {
+        order_to_end(b, pad, space).reverse()
+    } else {
+        order_to_end(a, pad, space)
+    }
+}
+
+/// The order of a list and of what stands behind a list's end.
+#[tactic(auto, using(crate::proofs::Order::order_to_end_unpadded))]
+fn order_to_end(list: &[u32], pad: Pad, space: u32) -> Ordering
+    ensures { result ≡ order_to_end pad space list.now }
+{
+    match pad {
+        Pad::NoPad => list.len().cmp(&0),
+        Pad::PadSpace => order_to_spaces(list, space),
+    }
+}
+
+/// The order of a list and of spaces without end.
+#[tactic(auto, using(crate::proofs::Order::facts))]
+fn order_to_spaces(list: &[u32], space: u32) -> Ordering
+    ensures { result ≡ order_to_end Pad.PadSpace space list.now }
+{
+    for weight in list {
+        if *weight != space {
+            return weight.cmp(&space);
+        }
+    }
+    Ordering::Equal
+}
+
+/// What `list_order` is: the one order of two lists that are prolonged without end, and so a total
+/// order.
+pub fn order_laws()
+    ensures described { (pad : Padding) (space : ℕ) (a b : List ℕ) → IsOrder pad space a b (list_order pad space a b) }
+    ensures unique { (pad : Padding) (space : ℕ) (a b : List ℕ) (order : _) → IsOrder pad space a b order → list_order pad space a b ≡ order }
+    ensures total { (pad : Padding) (space : ℕ) → IsTotalOrder (list_order pad space) }
+{}
