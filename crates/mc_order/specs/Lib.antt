@@ -1,3 +1,4 @@
 pub mod Order
 pub mod Meaning
 pub mod Laws
+pub mod Consequences

@@ -1,4 +1,5 @@
 ghost use Rattle.mc_charset.specs.Chars.{chars, IsWellFormed};
+ghost use Rattle.mc_order.specs.Consequences.{SameFirstLists, SafeFrontStands, CutWithoutContractions, FloorStands, HeadsAreChars, EmptyHasNoWeights};
 ghost use Rattle.mc_order.specs.Laws.{IsLawful};
 ghost use Rattle.mc_order.specs.Meaning.{Meaning, flat_list, first_chars, IsCharOf, IsSafe};
 ghost use Rattle.mc_order.specs.Order.{list_order};
@@ -84,7 +85,13 @@ pub trait Collation {
     ghost lawful: { (collation : Self) → IsLawful (meaning collation) };
 }
 
-/// What the laws say of a collation, for code that is generic in it.
+/// The laws of a collation, and what follows from them, for code that is generic in it.
 pub fn collation_laws<C: Collation>(collation: &C)
-    ensures { IsLawful (C.meaning collation.now) }
+    ensures lawful { IsLawful (C.meaning collation.now) }
+    ensures same_first { SameFirstLists (C.meaning collation.now) }
+    ensures safe_front { SafeFrontStands (C.meaning collation.now) }
+    ensures cut_short { CutWithoutContractions (C.meaning collation.now) }
+    ensures floor_stands { FloorStands (C.meaning collation.now) }
+    ensures heads { HeadsAreChars (C.meaning collation.now) }
+    ensures empty { EmptyHasNoWeights (C.meaning collation.now) }
 {}
