@@ -1,0 +1,36 @@
+-- The bytes that a script is cut at: ASCII, and the MySQL 8.0 manual, 9.1 and 9.7.
+use Rattle.std.specs.Prelude.{ℕ, Bool, ◌||◌, ◌&&◌, ◌==◌, nat_le}
+
+-- Space, TAB, LF, VT, FF or CR.
+abbrev pub is_space : ℕ → Bool
+is_space byte = byte == 0x20 || (nat_le 0x09 byte && nat_le byte 0x0D)
+
+abbrev pub line_feed : ℕ
+line_feed = 0x0A
+
+abbrev pub exclamation : ℕ
+exclamation = 0x21
+
+abbrev pub double_quote : ℕ
+double_quote = 0x22
+
+abbrev pub number_sign : ℕ
+number_sign = 0x23
+
+abbrev pub single_quote : ℕ
+single_quote = 0x27
+
+abbrev pub star : ℕ
+star = 0x2A
+
+abbrev pub dash : ℕ
+dash = 0x2D
+
+abbrev pub slash : ℕ
+slash = 0x2F
+
+abbrev pub semicolon : ℕ
+semicolon = 0x3B
+
+abbrev pub backslash : ℕ
+backslash = 0x5C
