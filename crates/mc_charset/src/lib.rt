@@ -1,6 +1,18 @@
 //! The eight character sets: which bytes spell a character, and which characters a text has.
 #![tactic(auto)]
 
+mod bytes;
+mod char_at;
 mod charset;
+mod collation_id;
+mod front;
+mod latin1;
+mod laws;
+mod utf8;
+mod wide;
 
+pub use char_at::CharAt;
 pub use charset::Charset;
+pub use collation_id::CollId;
+pub use front::next_char;
+pub use laws::chars_law;

@@ -1,0 +1,37 @@
+ghost use Rattle.mc_charset.specs.NextChar.{IsFound};
+ghost use Rattle.mc_charset.specs.Rows.{first_in};
+ghost use Rattle.mc_charset.specs.Tables.{rows};
+ghost use Rattle.mc_charset.specs.declared.charset.Charset.TheVariants.{Latin1};
+ghost use Rattle.std.specs.Prelude.{◌≡◌, ℕ, List, ◌∷◌};
+
+use crate::char_at::CharAt;
+
+/// The code points of the bytes 80 to 9F: Windows code page 1252, and the control characters at its five gaps.
+const CODES_80_TO_9F: [u16; 32] = [
+    0x20AC, 0x0081, 0x201A, 0x0192, 0x201E, 0x2026, 0x2020, 0x2021, 0x02C6, 0x2030, 0x0160, 0x2039,
+    0x0152, 0x008D, 0x017D, 0x008F, 0x0090, 0x2018, 0x2019, 0x201C, 0x201D, 0x2022, 0x2013, 0x2014,
+    0x02DC, 0x2122, 0x0161, 0x203A, 0x0153, 0x009D, 0x017E, 0x0178,
+];
+
+/// The first character of a text in latin1: each byte is one.
+pub(crate) fn next(text: &[u8]) -> CharAt
+    ensures { IsFound (rows Latin1) text.now result }
+{
+    match *text {
+        [] => CharAt::End,
+        [byte, ..] => CharAt::Char {
+            code: code_of(byte),
+            len: 1,
+        },
+    }
+}
+
+/// The code point of a byte.
+fn code_of(byte: u8) -> u32
+    ensures { (rest : List ℕ) → first_in (rows Latin1) (byte ∷ rest) ≡ Some (result, 1) }
+{
+    match byte {
+        0x80..=0x9F => u32::from(CODES_80_TO_9F[usize::from(byte - 0x80)]),
+        _ => u32::from(byte),
+    }
+}

@@ -1,0 +1,15 @@
+ghost use Rattle.mc_charset.specs.Chars.{spell, chars, Spells, IsWellFormed};
+ghost use Rattle.mc_charset.specs.declared.charset.Charset.{Charset};
+ghost use Rattle.std.specs.Prelude.{◌≡◌, ℕ, List, Some, ◌++◌, []};
+
+/// The laws of spellings: at most one list of characters spells a text, and `chars` is that list;
+/// no spelling of a set is a proper prefix of another one of the set; joined lists spell joined texts.
+pub fn chars_law()
+    ensures one_list { (set : Charset) (codes others text : List ℕ) → Spells set codes text → Spells set others text → codes ≡ others }
+    ensures decodes { (set : Charset) (codes text : List ℕ) → Spells set codes text → chars set text ≡ codes }
+    ensures encodes { (set : Charset) (text : List ℕ) → IsWellFormed set text → Spells set (chars set text) text }
+    ensures no_prefix { (set : Charset) (code other : ℕ) (front more : List ℕ)
+        → spell set code ≡ Some front → spell set other ≡ Some (front ++ more) → (code ≡ other) × (more ≡ []) }
+    ensures joins { (set : Charset) (codes more text rest : List ℕ)
+        → Spells set codes text → Spells set more rest → Spells set (codes ++ more) (text ++ rest) }
+{}
