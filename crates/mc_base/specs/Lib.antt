@@ -6,3 +6,4 @@ pub mod FaultPlan
 pub mod MemSink
 pub mod MemFiles
 pub mod Cursor
+pub mod formers
