@@ -47,8 +47,8 @@ module _ (R S : RattleType) (h : R.Denot → S.Denot) where
   the_places alike =
       let fields = struct_places (inside.the_type R) (inside.the_type S) (vec.mapped h, tt) _ (λ _. refl) refl (laid _ _ _ (vec.the_places global.the_row ghosts R S h alike), tt) in
       view_places vec_field (list this) view (λ X Y k at. refl) (λ X at. refl) R.Denot S.Denot h (contract.the_row R).coded (contract.the_row S).coded
-        (invariant R.Denot) (invariant S.Denot) (λ _ p q. refl) (λ _ p q. refl) (λ _ _. tt) (λ _ _. tt)
-        (over (inside.the_row R)) (over (inside.the_row S)) fields
+      (invariant R.Denot) (invariant S.Denot) (λ _ p q. refl) (λ _ p q. refl) (λ _ _. tt) (λ _ _. tt)
+      (over (inside.the_row R)) (over (inside.the_row S)) fields
 
   pub the_codes_placed : Recodes R S h → Recodes (contract.the_row R) (contract.the_row S) ((the_former this).map R.Denot S.Denot h)
   the_codes_placed recodes members = sym (code_map R.coded.code S.coded.code h (λ x. sym (recodes x)) members)
