@@ -7,3 +7,5 @@ pub mod MemSink
 pub mod MemFiles
 pub mod Cursor
 pub mod formers
+pub mod Blanks
+pub mod Lines

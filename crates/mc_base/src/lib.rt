@@ -2,6 +2,7 @@
 //! answer for want of memory, places in a script, refusals, and a counter of steps.
 #![tactic(auto)]
 
+mod blanks;
 mod boxed;
 mod fault_plan;
 mod list;
