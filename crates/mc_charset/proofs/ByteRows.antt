@@ -1,9 +1,9 @@
 -- The rows of one byte each: the code point of a byte is the member of a list at its place.
-use Rattle.std.proofs.Common.{◌≡◌, ℕ, ◌+◌, ◌-◌, ◌<◌, ◌≤◌, ◌⊎◌, List, [], ◌∷◌, Option, Some, None, length, get_or, sym, ap, ◌∙◌, arith, inl, inr, suc}
+use Rattle.std.proofs.Common.{◌≡◌, ◌≢◌, ℕ, ◌+◌, ◌-◌, ◌<◌, ◌≤◌, ◌⊎◌, true, false, List, [], ◌∷◌, Option, Some, None, length, get_or, sym, ap, ◌∙◌, arith, inl, inr, zero, suc, refl, cond, ◌/◌}
 use Rattle.std.specs.Option.{option_map, option_or}
 use Rattle.std.proofs.lemmas.Bool.{cases_lt}
 use Rattle.std.proofs.lemmas.Bool.Decides.{nat_tests}
-use Rattle.mc_charset.specs.Rows.{Row, place, first_in}
+use Rattle.mc_charset.specs.Rows.{Row, place, first_in, has_code, spelling_in, sequence}
 use Rattle.mc_charset.specs.Tables.{byte, only, rows, latin1_rows_80_to_9f}
 use Rattle.mc_charset.specs.declared.charset.Charset.TheVariants.{Latin1}
 
@@ -36,3 +36,29 @@ before_80_to_9f b rest h k = grind (arith, nat_tests)
 -- The code point of a byte from 80 to 9F, in a list of those that the rows have.
 pub latin1_middle : (codes : List ℕ) (b : ℕ) (rest : List ℕ) → bytes_from 0x80 codes ≡ latin1_rows_80_to_9f → length codes ≡ 32 → 0x80 ≤ b → b ≤ 0x9F → first_in (rows Latin1) (b ∷ rest) ≡ Some (get_or codes (b - 0x80) 0, 1)
 latin1_middle codes b rest e l h k = before_80_to_9f b rest h k ∙ ap (λ r. first_in r (b ∷ rest)) (sym e) ∙ first_in-bytes_from codes 0x80 b rest h (omega arith)
+
+-- The first place of a code point in the list has the byte that spells it.
+has_byte : (base code : ℕ) → has_code (byte base code) code ≡ true
+has_byte base code = let e : base + 1 - base ≡ 1 = omega arith in grind (arith, nat_tests)
+
+lacks_byte : (base first code : ℕ) → first ≢ code → has_code (byte base first) code ≡ false
+lacks_byte base first code h = let e : base + 1 - base ≡ 1 = omega arith in grind (arith, nat_tests)
+
+pub spelling_in-bytes_from : (codes : List ℕ) (base code place : ℕ) → place < length codes → get_or codes place 0 ≡ code → ((k : ℕ) → k < place → get_or codes k 0 ≡ code → ⊥) → spelling_in (bytes_from base codes) code ≡ Some ((base + place) ∷ [])
+spelling_in-bytes_from [] base code place h k l = absurd (omega arith)
+spelling_in-bytes_from (first ∷ codes) base code zero h k l =
+    let t : has_code (byte base first) code ≡ true = ap (λ x. has_code (byte base x) code) k ∙ has_byte base code in
+    let z : base + (code - first) / 1 ≡ base + 0 = omega (arith, k) in
+    ap (λ x. cond x (Some (sequence (only base ∷ []) (code - first))) (spelling_in (bytes_from (base + 1) codes) code)) t ∙ ap (λ x. Some (x ∷ [])) z
+spelling_in-bytes_from (first ∷ codes) base code (suc place) h k l =
+    let t : has_code (byte base first) code ≡ false = lacks_byte base first code (l zero (omega arith)) in
+    ap (λ x. cond x (Some (sequence (only base ∷ []) (code - first))) (spelling_in (bytes_from (base + 1) codes) code)) t
+    ∙ spelling_in-bytes_from codes (base + 1) code place (omega arith) k (λ i m. l (suc i) (omega arith))
+    ∙ ap (λ x. Some (x ∷ [])) (omega arith)
+
+pub spelling_in-bytes_from_none : (codes : List ℕ) (base code : ℕ) → ((k : ℕ) → k < length codes → get_or codes k 0 ≡ code → ⊥) → spelling_in (bytes_from base codes) code ≡ None
+spelling_in-bytes_from_none [] base code l = refl
+spelling_in-bytes_from_none (first ∷ codes) base code l =
+    let t : has_code (byte base first) code ≡ false = lacks_byte base first code (l zero (omega arith)) in
+    ap (λ x. cond x (Some (sequence (only base ∷ []) (code - first))) (spelling_in (bytes_from (base + 1) codes) code)) t
+    ∙ spelling_in-bytes_from_none codes (base + 1) code (λ i m. l (suc i) (omega arith))

@@ -2,3 +2,5 @@ pub mod Rows
 pub mod Tables
 pub mod Chars
 pub mod NextChar
+pub mod PutChar
+pub mod Names

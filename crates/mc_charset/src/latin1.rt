@@ -1,10 +1,13 @@
+ghost use Rattle.mc_charset.specs.PutChar.{bytes_of};
+ghost use Rattle.std.specs.Option.{option_map};
 ghost use Rattle.mc_charset.specs.NextChar.{IsFound};
-ghost use Rattle.mc_charset.specs.Rows.{first_in};
-ghost use Rattle.mc_charset.specs.Tables.{rows};
+ghost use Rattle.mc_charset.specs.Rows.{first_in, spelling_in};
+ghost use Rattle.mc_charset.specs.Tables.{rows, latin1_rows_80_to_9f};
 ghost use Rattle.mc_charset.specs.declared.charset.Charset.TheVariants.{Latin1};
 ghost use Rattle.std.specs.Prelude.{◌≡◌, ℕ, List, ◌∷◌};
 
 use crate::char_at::CharAt;
+use crate::spelling::Spelling;
 
 /// The code points of the bytes 80 to 9F: Windows code page 1252, and the control characters at its five gaps.
 const CODES_80_TO_9F: [u16; 32] = [
@@ -34,4 +37,26 @@ fn code_of(byte: u8) -> u32
         0x80..=0x9F => u32::from(CODES_80_TO_9F[usize::from(byte - 0x80)]),
         _ => u32::from(byte),
     }
+}
+
+/// The spelling of a code point in latin1.
+pub(crate) fn spelling(code: u32) -> Option<Spelling>
+    ensures { option_map bytes_of result ≡ spelling_in (rows Latin1) code }
+{
+    match code {
+        0x00..=0x7F | 0xA0..=0xFF => Some(Spelling::One([code as u8])),
+        _ => spelling_80_to_9f(code),
+    }
+}
+
+/// The byte from 80 to 9F that spells a code point.
+fn spelling_80_to_9f(code: u32) -> Option<Spelling>
+    ensures { option_map bytes_of result ≡ spelling_in latin1_rows_80_to_9f code }
+{
+    for (place, other) in CODES_80_TO_9F.iter().enumerate() {
+        if u32::from(*other) == code {
+            return Some(Spelling::One([0x80 + place as u8]));
+        }
+    }
+    None
 }

@@ -8,6 +8,9 @@ mod collation_id;
 mod front;
 mod latin1;
 mod laws;
+mod names;
+mod put;
+mod spelling;
 mod utf8;
 mod wide;
 
@@ -16,3 +19,5 @@ pub use charset::Charset;
 pub use collation_id::CollId;
 pub use front::next_char;
 pub use laws::chars_law;
+pub use names::{bin_of, charset_by_name, charset_name, is_unicode};
+pub use put::{PutChar, put_char};

@@ -1,8 +1,12 @@
+ghost use Rattle.mc_charset.specs.PutChar.{bytes_of};
+ghost use Rattle.std.specs.Option.{option_map};
+ghost use Rattle.mc_charset.specs.Rows.{spelling_in};
 ghost use Rattle.mc_charset.specs.NextChar.{IsFound};
 ghost use Rattle.mc_charset.specs.Tables.{utf8_short_rows, utf8_long_rows};
-ghost use Rattle.std.specs.Prelude.{◌≡◌, ◌≤◌, ◌+◌, ◌-◌, ◌*◌, ◌++◌};
+ghost use Rattle.std.specs.Prelude.{◌≡◌, ◌≤◌, ◌+◌, ◌-◌, ◌*◌, ◌++◌, ◌%◌};
 
 use crate::char_at::CharAt;
+use crate::spelling::Spelling;
 
 /// The first character by all nine rows of the Unicode Standard's Table 3-7.
 pub(crate) fn next(text: &[u8]) -> CharAt
@@ -101,4 +105,42 @@ fn four(a: u8, b: u8, c: u8, d: u8) -> CharAt
             + u32::from(d - 0x80),
         len: 4,
     }
+}
+
+/// The spelling of a code point by all nine rows.
+pub(crate) fn spelling(code: u32) -> Option<Spelling>
+    ensures { option_map bytes_of result ≡ spelling_in (utf8_short_rows ++ utf8_long_rows) code }
+{
+    match code {
+        0x10000..=0x10FFFF => Some(Spelling::Four([
+            0xF0 + (code / 0x40000) as u8,
+            trail(code / 0x1000),
+            trail(code / 0x40),
+            trail(code),
+        ])),
+        _ => spelling_short(code),
+    }
+}
+
+/// The spelling of a code point by the first six rows.
+pub(crate) fn spelling_short(code: u32) -> Option<Spelling>
+    ensures { option_map bytes_of result ≡ spelling_in utf8_short_rows code }
+{
+    match code {
+        0x0000..=0x007F => Some(Spelling::One([code as u8])),
+        0x0080..=0x07FF => Some(Spelling::Two([0xC0 + (code / 0x40) as u8, trail(code)])),
+        0x0800..=0xD7FF | 0xE000..=0xFFFF => Some(Spelling::Three([
+            0xE0 + (code / 0x1000) as u8,
+            trail(code / 0x40),
+            trail(code),
+        ])),
+        _ => None,
+    }
+}
+
+/// A byte behind the first: the last six bits.
+fn trail(bits: u32) -> u8
+    ensures { result ≡ 0x80 + bits % 0x40 }
+{
+    0x80 + (bits % 0x40) as u8
 }

@@ -1,0 +1,41 @@
+-- The names of the character sets and of their binary collations: MySQL 8.0 manual, 10.2 and 10.8.5.
+use Rattle.std.specs.Prelude.{◌≡◌, ◌⊎◌, ℕ, Bool, true, false, List, [], ◌∷◌, ◌++◌, codes, map}
+use Rattle.std.specs.Char.{to_ascii_lowercase}
+use Rattle.mc_charset.specs.declared.charset.Charset.{Charset}
+use Rattle.mc_charset.specs.declared.charset.Charset.TheVariants.{Latin1, Ascii, Utf8mb3, Utf8mb4, Ucs2, Utf16, Utf32, Binary}
+
+-- The name of a set.
+abbrev pub name_of : Charset → List ℕ
+name_of Latin1 = codes "latin1"
+name_of Ascii = codes "ascii"
+name_of Utf8mb3 = codes "utf8mb3"
+name_of Utf8mb4 = codes "utf8mb4"
+name_of Ucs2 = codes "ucs2"
+name_of Utf16 = codes "utf16"
+name_of Utf32 = codes "utf32"
+name_of Binary = codes "binary"
+
+-- The text names the set, the case of A to Z ignored: by its name, or utf8mb3 by `utf8`.
+abbrev pub Names : List ℕ → Charset → Type 0
+Names text set = (map to_ascii_lowercase text ≡ name_of set) ⊎ ((map to_ascii_lowercase text ≡ codes "utf8") × (set ≡ Utf8mb3))
+
+-- The sets that have Unicode's characters and no others.
+abbrev pub is_unicode_set : Charset → Bool
+is_unicode_set Latin1 = false
+is_unicode_set Ascii = false
+is_unicode_set Binary = false
+is_unicode_set Utf8mb3 = true
+is_unicode_set Utf8mb4 = true
+is_unicode_set Ucs2 = true
+is_unicode_set Utf16 = true
+is_unicode_set Utf32 = true
+
+-- The names of the built-in collations, in the order of their numbers from 0 on.
+abbrev pub built_in_names : List (List ℕ)
+built_in_names = codes "binary" ∷ codes "latin1_bin" ∷ codes "ascii_bin" ∷ codes "utf8mb3_bin" ∷ codes "utf8mb4_bin"
+    ∷ codes "ucs2_bin" ∷ codes "utf16_bin" ∷ codes "utf32_bin" ∷ codes "utf8mb4_0900_bin" ∷ []
+
+-- The name of a set's binary collation: `binary` for binary, else the set's name with `_bin`.
+abbrev pub bin_name : Charset → List ℕ
+bin_name Binary = codes "binary"
+bin_name set = name_of set ++ codes "_bin"

@@ -1,0 +1,38 @@
+ghost use Rattle.mc_charset.specs.Chars.{spell};
+ghost use Rattle.std.specs.Option.{option_map};
+ghost use Rattle.std.specs.Prelude.{◌≡◌, ◌↔◌, ◌++◌, OnOk, OnErr};
+
+use crate::charset::Charset;
+use crate::spelling::Spelling;
+use mc_base::{NoMemory, Text};
+
+/// Why a character was not appended.
+#[derive(Clone, Copy, Debug, PartialEq, Eq)]
+pub enum PutChar {
+    /// The set lacks the code point.
+    Unfit,
+    /// Memory ran out.
+    NoMemory,
+}
+
+impl From<NoMemory> for PutChar {
+    fn from(_error: NoMemory) -> PutChar {
+        PutChar::NoMemory
+    }
+}
+
+/// Appends the one spelling of a code point. `Unfit` exactly where the set lacks the code point;
+/// after an error the text is as it was.
+pub fn put_char(set: Charset, code: u32, out: &mut Text) -> Result<(), PutChar>
+    ensures ok { OnOk result (option_map (λ front. out.old ++ front) (spell set code) ≡ Some out.new) }
+    ensures unfit { (result ≡ Err PutChar.Unfit) ↔ (spell set code ≡ None) }
+    ensures err { OnErr result (out.new ≡ out.old) }
+{
+    let Some(spelling) = Spelling::of(set, code) else {
+        return Err(PutChar::Unfit);
+    };
+    match out.extend_from_slice(spelling.as_slice()) {
+        Ok(()) => Ok(()),
+        Err(NoMemory) => Err(PutChar::NoMemory),
+    }
+}
