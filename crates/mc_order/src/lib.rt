@@ -4,7 +4,9 @@
 mod collation;
 mod lists;
 mod pad;
+mod stream;
 
 pub use collation::{Collation, collation_laws};
 pub use lists::{compare_lists, order_laws};
 pub use pad::Pad;
+pub use stream::{WeightStream, compare_streams};
