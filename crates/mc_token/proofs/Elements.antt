@@ -1,20 +1,24 @@
 -- One step of each recursion over the bytes of a script, at a place.
-use Rattle.std.proofs.Common.{◌≡◌, ℕ, ◌+◌, ◌-◌, ◌<◌, ◌≤◌, ◌==◌, ◌&&◌, ◌||◌, not, cond, List, [], ◌∷◌, Some, None, length, drop, get_or, ltb, suc, zero, refl, ap, ◌∙◌, arith}
-use Rattle.std.proofs.lemmas.List.{at_drop_more, at_drop_all, get_or-drop, drop-drop, length-drop}
+use Rattle.std.proofs.Common.{◌≡◌, ℕ, ◌+◌, ◌-◌, ◌<◌, ◌≤◌, ◌==◌, ◌&&◌, ◌||◌, not, cond, List, [], ◌∷◌, Some, None, length, take, drop, get_or, ltb, suc, zero, refl, ap, ◌∙◌, arith}
+use Rattle.std.proofs.lemmas.List.{at_drop_more, at_drop_all, get_or-drop, drop-drop, length-drop, take_all}
 use Rattle.std.proofs.lemmas.Bool.Decides.{nat_tests}
 use Rattle.mc_token.specs.Bytes.{star, slash, backslash}
 use Rattle.mc_token.specs.Elements.{block_end, quote_end, element_of, elements_behind, elements}
 use Rattle.mc_token.specs.declared.element.Element.{Element}
 
 -- the byte behind the first of the bytes at a place
-second_of : (bytes : List ℕ) (at : ℕ) → get_or (drop (at + 1) bytes) 0 0 ≡ get_or bytes (at + 1) 0
+pub second_of : (bytes : List ℕ) (at : ℕ) → get_or (drop (at + 1) bytes) 0 0 ≡ get_or bytes (at + 1) 0
 second_of bytes at = get_or-drop (at + 1) bytes 0 0 ∙ ap (λ n. get_or bytes n 0) (omega arith)
 
-third_of : (bytes : List ℕ) (at : ℕ) → drop 1 (drop (at + 1) bytes) ≡ drop (at + 2) bytes
+pub third_of : (bytes : List ℕ) (at : ℕ) → drop 1 (drop (at + 1) bytes) ≡ drop (at + 2) bytes
 third_of bytes at = drop-drop 1 (at + 1) bytes ∙ ap (λ n. drop n bytes) (omega arith)
 
-longer_at : (bytes : List ℕ) (at : ℕ) → ltb 0 (length (drop (at + 1) bytes)) ≡ ltb (at + 1) (length bytes)
+pub longer_at : (bytes : List ℕ) (at : ℕ) → ltb 0 (length (drop (at + 1) bytes)) ≡ ltb (at + 1) (length bytes)
 longer_at bytes at = let e = length-drop (at + 1) bytes in grind (arith, nat_tests)
+
+-- The slice behind the first of the bytes at a place is all that is behind it.
+pub behind_of : (bytes : List ℕ) (at : ℕ) → take (length bytes - (at + 1)) (drop (at + 1) bytes) ≡ drop (at + 1) bytes
+behind_of bytes at = take_all (length bytes - (at + 1)) (drop (at + 1) bytes) (omega (arith, length-drop (at + 1) bytes))
 
 pub block_end-done : (bytes : List ℕ) (at : ℕ) → length bytes ≤ at → block_end at (drop at bytes) ≡ None
 unfolding block_end

@@ -1,2 +1,4 @@
 pub mod Elements
+pub mod Lexemes
 pub mod Statements
+pub mod Lexing

@@ -1,5 +1,6 @@
 -- The bytes that a script is cut at: ASCII, and the MySQL 8.0 manual, 9.1 and 9.7.
 use Rattle.std.specs.Prelude.{ℕ, Bool, ◌||◌, ◌&&◌, ◌==◌, nat_le}
+use Rattle.std.specs.Char.{is_ascii_alphabetic, is_ascii_alphanumeric}
 
 -- Space, TAB, LF, VT, FF or CR.
 abbrev pub is_space : ℕ → Bool
@@ -34,3 +35,14 @@ semicolon = 0x3B
 
 abbrev pub backslash : ℕ
 backslash = 0x5C
+
+-- A letter or `_`.
+abbrev pub begins_word : ℕ → Bool
+begins_word byte = is_ascii_alphabetic byte || byte == 0x5F
+
+-- A letter, a digit, `_` or `$`.
+abbrev pub continues_word : ℕ → Bool
+continues_word byte = is_ascii_alphanumeric byte || byte == 0x5F || byte == 0x24
+
+abbrev pub equals : ℕ
+equals = 0x3D

@@ -1,3 +1,6 @@
 pub mod Bytes
 pub mod Elements
 pub mod Statements
+pub mod Spellings
+pub mod Lexemes
+pub mod Tokens

@@ -158,6 +158,7 @@ fn ends_block(bytes: &[u8], at: usize) -> bool
 #[tactic(auto, using(crate::proofs::Elements::quote_end_steps))]
 pub fn quote_end(quote: u8, behind: &[u8]) -> Option<usize>
     ensures value { result ≡ quote_end quote 0 behind.now }
+    ensures not_empty { IfSome result (λ end. 0 < end) }
     ensures within { IfSome result (λ end. end ≤ length behind.now) }
 {
     let mut at = 0;

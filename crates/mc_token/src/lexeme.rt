@@ -1,4 +1,7 @@
-use mc_base::{Span, Text};
+ghost use Rattle.std.specs.Prelude.{◌≡◌};
+ghost use Rattle.mc_token.specs.declared.lexeme.LexFault.TheVariants as fault;
+
+use mc_base::{NoMemory, Span, Text};
 
 /// What a token says: MySQL 8.0 manual, 9.1 and 9.2.
 #[derive(Debug, Drop)]
@@ -56,4 +59,12 @@ pub enum LexFault {
     TooManyTokens,
     /// Memory ran out.
     NoMemory,
+}
+
+impl From<NoMemory> for LexFault {
+    ghost from_gives = { λ _ e. e ≡ fault.NoMemory };
+
+    fn from(_error: NoMemory) -> LexFault {
+        LexFault::NoMemory
+    }
 }

@@ -3,7 +3,11 @@
 
 mod element;
 mod lexeme;
+mod reading;
+mod spelling;
 mod statement;
+mod token;
 
 pub use lexeme::{LexFault, Lexeme, Symbol, Token};
 pub use statement::next_statement;
+pub use token::tokens;

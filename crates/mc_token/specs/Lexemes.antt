@@ -1,0 +1,43 @@
+-- What a token says, by the bytes that spell it: MySQL 8.0 manual, 9.1.1 (table 9.1) and 9.2.
+use Rattle.std.specs.Prelude.{ℕ, ◌-◌, ◌||◌, ◌==◌, List, [], ◌∷◌, ◌++◌, map, take, drop, length, slice_index, if◌then◌else◌}
+use Rattle.std.specs.Char.{to_ascii_lowercase}
+use Rattle.mc_token.specs.Bytes.{backslash}
+use Rattle.mc_token.specs.declared.lexeme.Lexeme.{Lexeme}
+use Rattle.mc_token.specs.declared.lexeme.Lexeme.TheVariants as lexeme
+use Rattle.mc_token.specs.declared.spelling.Shape.{Shape}
+use Rattle.mc_token.specs.declared.spelling.Shape.TheVariants.{Word, Str, Sym}
+
+-- What a backslash and the byte behind it stand for. Before `%` and `_` the backslash stays.
+abbrev pub escaped : ℕ → List ℕ
+escaped byte =
+    if byte == 0x30 then 0x00 ∷ []
+    else (if byte == 0x62 then 0x08 ∷ []
+    else (if byte == 0x6E then 0x0A ∷ []
+    else (if byte == 0x72 then 0x0D ∷ []
+    else (if byte == 0x74 then 0x09 ∷ []
+    else (if byte == 0x5A then 0x1A ∷ []
+    else (if byte == 0x25 || byte == 0x5F then backslash ∷ byte ∷ []
+    else byte ∷ []))))))
+
+-- What a backslash or a quote inside a string stands for, with the byte behind it.
+unfoldable pub pair : ℕ → ℕ → List ℕ
+pair byte next = if byte == backslash then escaped next else byte ∷ []
+
+-- The text of a string, by the bytes between its quotes: an escape and a doubled quote are pairs of
+-- bytes, and any other byte stands for itself.
+unfoldable pub content : ℕ → List ℕ → List ℕ
+content quote [] = []
+content quote (byte ∷ []) = byte ∷ []
+content quote (byte ∷ next ∷ behind) =
+    if byte == backslash || byte == quote then pair byte next ++ content quote behind
+    else byte ∷ content quote (next ∷ behind)
+
+-- The bytes between the first and the last.
+abbrev pub inside : List ℕ → List ℕ
+inside bytes = take (length bytes - 2) (drop 1 bytes)
+
+-- The lexeme that these bytes spell.
+unfoldable pub lexeme_of : Shape → List ℕ → Lexeme
+lexeme_of Word bytes = lexeme.Word (map to_ascii_lowercase bytes)
+lexeme_of Str bytes = lexeme.Str (content (slice_index bytes 0) (inside bytes))
+lexeme_of (Sym symbol) bytes = lexeme.Sym symbol
