@@ -1,0 +1,69 @@
+-- A rule is known by its number.
+use Rattle.std.proofs.Common.{◌≡◌, refl, ℕ, zero, suc, List, [], ◌∷◌}
+use Rattle.mc_sql.specs.Rules.{Rule, statement, explain_option, distinct_option, more_items, source_option, source, where_option, group_option, more_ors, order_option, more_orders, limit_option, offset_option, item, alias_option, order, direction_option, or, more_xors, xor, more_ands, and, more_nots, not, pred, not_option, escape_option, cmp, sum, more_prods, prod, more_negs, neg, coll, more_collates, name_or_binary, prim, string, more_strs, call, set_option, side, or_option, length_option, cut_option}
+use Rattle.mc_sql.proofs.Tables.{number_of}
+
+-- The rule at a place.
+abbrev at : ℕ → List Rule → Rule
+at n [] = statement
+at zero (r ∷ rs) = r
+at (suc n) (r ∷ rs) = at n rs
+
+-- The rule of a number.
+abbrev pub rule_of : ℕ → Rule
+rule_of n =
+    at n (
+    statement ∷ explain_option ∷ distinct_option ∷ more_items ∷ source_option ∷ source ∷
+    where_option ∷ group_option ∷ more_ors ∷ order_option ∷ more_orders ∷ limit_option ∷
+    offset_option ∷ item ∷ alias_option ∷ order ∷ direction_option ∷ or ∷ more_xors ∷ xor ∷
+    more_ands ∷ and ∷ more_nots ∷ not ∷ pred ∷ not_option ∷ escape_option ∷ cmp ∷ sum ∷
+    more_prods ∷ prod ∷ more_negs ∷ neg ∷ coll ∷ more_collates ∷ name_or_binary ∷ prim ∷
+    string ∷ more_strs ∷ call ∷ set_option ∷ side ∷ or_option ∷ length_option ∷ cut_option ∷
+    [])
+
+pub rule_of-number : (r : Rule) → rule_of (number_of r) ≡ r
+rule_of-number statement = refl
+rule_of-number explain_option = refl
+rule_of-number distinct_option = refl
+rule_of-number more_items = refl
+rule_of-number source_option = refl
+rule_of-number source = refl
+rule_of-number where_option = refl
+rule_of-number group_option = refl
+rule_of-number more_ors = refl
+rule_of-number order_option = refl
+rule_of-number more_orders = refl
+rule_of-number limit_option = refl
+rule_of-number offset_option = refl
+rule_of-number item = refl
+rule_of-number alias_option = refl
+rule_of-number order = refl
+rule_of-number direction_option = refl
+rule_of-number or = refl
+rule_of-number more_xors = refl
+rule_of-number xor = refl
+rule_of-number more_ands = refl
+rule_of-number and = refl
+rule_of-number more_nots = refl
+rule_of-number not = refl
+rule_of-number pred = refl
+rule_of-number not_option = refl
+rule_of-number escape_option = refl
+rule_of-number cmp = refl
+rule_of-number sum = refl
+rule_of-number more_prods = refl
+rule_of-number prod = refl
+rule_of-number more_negs = refl
+rule_of-number neg = refl
+rule_of-number coll = refl
+rule_of-number more_collates = refl
+rule_of-number name_or_binary = refl
+rule_of-number prim = refl
+rule_of-number string = refl
+rule_of-number more_strs = refl
+rule_of-number call = refl
+rule_of-number set_option = refl
+rule_of-number side = refl
+rule_of-number or_option = refl
+rule_of-number length_option = refl
+rule_of-number cut_option = refl

@@ -1,0 +1,8 @@
+//! The grammar of the statements: MySQL 8.0 manual, 13.2.10 (SELECT), 12.4 (operators), 9.1 to 9.3
+//! (literals, names, reserved words), as far as the engine has them. In reading order: `Classes`,
+//! `Rules` and `Statements` of `specs/`, then [`statements_read_once`].
+#![tactic(auto)]
+
+mod once;
+
+pub use once::statements_read_once;
