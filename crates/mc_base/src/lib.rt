@@ -5,11 +5,13 @@
 mod blanks;
 mod boxed;
 mod fault_plan;
+mod lines;
 mod list;
 mod mem_files;
 mod mem_sink;
 mod no_memory;
 mod outside;
+mod places;
 mod real_files;
 mod real_sink;
 mod refusal;
@@ -20,6 +22,7 @@ mod tests;
 mod whole;
 
 pub use boxed::Boxed;
+pub use lines::{Line, LineReader};
 pub use list::{List, Text, Weights};
 pub use mem_files::MemFiles;
 pub use mem_sink::MemSink;
