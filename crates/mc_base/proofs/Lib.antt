@@ -1,3 +1,4 @@
 pub mod Contents
 pub mod PlaceLemmas
 pub mod LineLemmas
+pub mod FieldLemmas

@@ -9,3 +9,5 @@ pub mod Cursor
 pub mod formers
 pub mod Blanks
 pub mod Lines
+pub mod Fields
+pub mod Hex

@@ -5,6 +5,8 @@
 mod blanks;
 mod boxed;
 mod fault_plan;
+mod fields;
+mod hex;
 mod lines;
 mod list;
 mod mem_files;
@@ -22,6 +24,8 @@ mod tests;
 mod whole;
 
 pub use boxed::Boxed;
+pub use fields::next_field;
+pub use hex::hex_number;
 pub use lines::{Line, LineReader};
 pub use list::{List, Text, Weights};
 pub use mem_files::MemFiles;
