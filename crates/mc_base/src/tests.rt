@@ -1,6 +1,6 @@
 use crate::{
-    List, MemFiles, MemSink, NoMemory, PutAnswer, ReadWhole, RealFiles, RealSink, Sink, Text,
-    read_whole,
+    LineReader, List, MemFiles, MemSink, NoMemory, PutAnswer, ReadWhole, RealFiles, RealSink, Sink,
+    Text, hex_number, next_field, read_whole,
 };
 use std::alloc::Global;
 use std::fs;
@@ -130,4 +130,27 @@ fn real_files_are_read_whole(rt: HostRuntime) {
 fn standard_output_takes_a_line(rt: HostRuntime) {
     let answer = RealSink::new(rt).put(b"a line\n");
     assert!(rt; answer == PutAnswer::Done);
+}
+
+#[test]
+fn lines_and_fields_are_cut(rt: HostRuntime) {
+    let mut reader = LineReader::new(b"a  b # c\r\n\n\tx\t\r\n#\nlast\r");
+    let want: [(u32, &[u8]); 3] = [(1, b"a  b"), (3, b"x"), (5, b"last\r")];
+    for (number, body) in want {
+        let line = reader.next_line();
+        assert!(rt;
+            matches!(line, Some(l) if l.number == number && l.body == body),
+            "{number}"
+        );
+    }
+    assert!(rt; reader.next_line().is_none(), "the end");
+    let field = next_field(b" a  b");
+    assert!(rt;
+        matches!(field, Some((first, rest)) if first == b"a".as_slice() && rest == b"  b".as_slice())
+    );
+    assert!(rt;
+        hex_number(b"10fFfF") == Some(1_114_111),
+        "the greatest code point"
+    );
+    assert!(rt; hex_number(b"1000000").is_none(), "seven digits");
 }
