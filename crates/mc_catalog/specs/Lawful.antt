@@ -1,0 +1,89 @@
+-- What every catalog keeps to: the names, numbers, lengths and limits of its parts.
+use Rattle.std.specs.Prelude.{◌≡◌, ◌≢◌, ◌<◌, ◌≤◌, ⊤, ℕ, Bool, true, false, IsTrue, List, length, take, drop, Option, None, Some, All, AllPairs, IfSome, IsSomeAnd, slice_get}
+use Rattle.mc_charset.specs.Names.{is_unicode_set}
+use Rattle.mc_charset.specs.declared.charset.Charset.{Charset}
+use Rattle.mc_charset.specs.declared.charset.Charset.TheVariants.{Latin1, Ascii, Utf8mb4}
+use Rattle.mc_catalog.specs.declared.catalog.Kind.{Kind}
+use Rattle.mc_catalog.specs.declared.catalog.Kind.TheVariants.{Bin, Table8, General, Uca400, Uca520, Uca900AiCi, Uca900AsCi, Uca900AsCs}
+use Rattle.mc_catalog.specs.declared.catalog.ColumnType.{ColumnType}
+use Rattle.mc_catalog.specs.declared.catalog.ColumnType.TheVariants.{BigInt, Char, VarChar, Binary, VarBinary}
+use Rattle.mc_catalog.specs.declared.catalog.CollDecl.{CollDecl}
+use Rattle.mc_catalog.specs.declared.catalog.ColumnDecl.{ColumnDecl}
+use Rattle.mc_catalog.specs.declared.catalog.IndexDecl.{IndexDecl}
+use Rattle.mc_catalog.specs.declared.catalog.TableDecl.{TableDecl}
+use Rattle.mc_catalog.specs.declared.catalog.Catalog.{Catalog}
+use Rattle.mc_catalog.specs.BuiltIn.{built_in_collations}
+
+-- whether a set has one byte for each character of a text: latin1 and ascii
+abbrev pub is_single_byte : Charset → Bool
+is_single_byte Latin1 = true
+is_single_byte Ascii = true
+is_single_byte _ = false
+
+-- whether a set is utf8mb4
+abbrev pub is_utf8mb4 : Charset → Bool
+is_utf8mb4 Utf8mb4 = true
+is_utf8mb4 _ = false
+
+-- whether a collation of a set may be declared with this kind
+abbrev pub suits : Kind → Charset → Bool
+suits Bin set = false
+suits Table8 set = is_single_byte set
+suits General set = is_unicode_set set
+suits Uca400 set = is_unicode_set set
+suits Uca520 set = is_unicode_set set
+suits Uca900AiCi set = is_utf8mb4 set
+suits Uca900AsCi set = is_utf8mb4 set
+suits Uca900AsCs set = is_utf8mb4 set
+
+-- whether a kind can be tailored: those of the Unicode Collation Algorithm
+abbrev pub takes_rules : Kind → Bool
+takes_rules Bin = false
+takes_rules Table8 = false
+takes_rules General = false
+takes_rules _ = true
+
+-- A declared collation has a kind that suits its set, and rules only where the kind takes them.
+abbrev pub IsLawfulCollation : CollDecl → Type 0
+IsLawfulCollation declared = IsTrue (suits declared.kind declared.charset) × IfSome declared.rules (λ _. IsTrue (takes_rules declared.kind))
+
+-- A column's type has a length within the limits and a collation of the catalog, which has this many.
+abbrev pub IsLawfulType : ℕ → ColumnType → Type 0
+IsLawfulType collations BigInt = ⊤
+IsLawfulType collations (Char n coll) = (1 ≤ n) × (n ≤ 255) × (coll.0 < collations)
+IsLawfulType collations (VarChar n coll) = (1 ≤ n) × (n ≤ 4096) × (coll.0 < collations)
+IsLawfulType collations (Binary n) = (1 ≤ n) × (n ≤ 255)
+IsLawfulType collations (VarBinary n) = (1 ≤ n) × (n ≤ 4096)
+
+-- the greatest length of a column's values, in characters, or bytes of a binary one
+abbrev pub width_of : ColumnType → Option ℕ
+width_of BigInt = None
+width_of (Char n coll) = Some n
+width_of (VarChar n coll) = Some n
+width_of (Binary n) = Some n
+width_of (VarBinary n) = Some n
+
+-- An index covers a column that has a length, or a part of it that is no longer.
+abbrev pub IsLawfulIndex : List ColumnDecl → IndexDecl → Type 0
+IsLawfulIndex columns index = IsSomeAnd (slice_get columns index.column)
+    (λ column. IsSomeAnd (width_of column.ty) (λ n. IfSome index.prefix (λ k. (1 ≤ k) × (k ≤ n))))
+
+-- A table's parts are lawful and within the limits, and the names of its columns and indexes differ.
+pub record IsLawfulTable (collations : ℕ) (table : TableDecl) : Type 0 where
+  pub few_columns : length table.columns ≤ 32
+  pub few_indexes : length table.indexes ≤ 8
+  pub types : All (λ column. IsLawfulType collations column.ty) table.columns
+  pub indexes : All (IsLawfulIndex table.columns) table.indexes
+  pub column_names : AllPairs (λ a b. a.name ≢ b.name) table.columns
+  pub index_names : AllPairs (λ a b. a.name ≢ b.name) table.indexes
+
+-- A catalog begins with the built-in collations, and its parts are lawful and within the limits.
+pub record IsLawful (catalog : Catalog) : Type 0 where
+  pub built_in : take 9 catalog.collations ≡ built_in_collations
+  pub few_collations : length catalog.collations ≤ 73
+  pub declared : All IsLawfulCollation (drop 9 catalog.collations)
+  pub collation_names : AllPairs (λ a b. a.name ≢ b.name) catalog.collations
+  pub few_tables : length catalog.tables ≤ 16
+  pub tables : All (IsLawfulTable (length catalog.collations)) catalog.tables
+  pub table_names : AllPairs (λ a b. a.name ≢ b.name) catalog.tables
+  pub connection : catalog.connection.0 < length catalog.collations

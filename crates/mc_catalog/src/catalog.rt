@@ -1,0 +1,72 @@
+use mc_base::{List, Text};
+use mc_charset::{Charset, CollId};
+
+/// Where a collation's weights come from: the bytes of the spelling, a table of 256 bytes, a table
+/// of code points, or an element table of the Unicode Collation Algorithm of that version, by the
+/// levels that it compares.
+#[derive(Clone, Copy, Debug, PartialEq, Eq)]
+pub enum Kind {
+    Bin,
+    Table8,
+    General,
+    Uca400,
+    Uca520,
+    Uca900AiCi,
+    Uca900AsCi,
+    Uca900AsCs,
+}
+
+/// A collation: its name in lower case, its set and kind, the file of its weights (no name for a
+/// built-in one), and the file of its tailoring, if it has one.
+#[derive(Drop)]
+pub struct CollDecl {
+    pub name: Text,
+    pub charset: Charset,
+    pub kind: Kind,
+    pub file: Text,
+    pub rules: Option<Text>,
+}
+
+/// The type of a column. `n` counts characters of a text, bytes of a binary string.
+#[derive(Clone, Copy, Debug, PartialEq, Eq)]
+pub enum ColumnType {
+    BigInt,
+    Char { n: u32, coll: CollId },
+    VarChar { n: u32, coll: CollId },
+    Binary { n: u32 },
+    VarBinary { n: u32 },
+}
+
+/// A column: its name in lower case, and its type.
+#[derive(Drop)]
+pub struct ColumnDecl {
+    pub name: Text,
+    pub ty: ColumnType,
+}
+
+/// An index: its name in lower case, the place of its column in the table, from 0, and how many
+/// characters (bytes for binary) of the column it covers, if not all.
+#[derive(Drop)]
+pub struct IndexDecl {
+    pub name: Text,
+    pub column: u32,
+    pub prefix: Option<u32>,
+}
+
+/// A table: its name in lower case, the file of its rows, its columns and its indexes.
+#[derive(Drop)]
+pub struct TableDecl {
+    pub name: Text,
+    pub file: Text,
+    pub columns: List<ColumnDecl>,
+    pub indexes: List<IndexDecl>,
+}
+
+/// The collations, which their places number from 0, the nine built-in ones first; the tables; and
+/// the collation of a connection.
+#[derive(Drop)]
+pub struct Catalog {
+    pub collations: List<CollDecl>,
+    pub tables: List<TableDecl>,
+    pub connection: CollId,
+}
