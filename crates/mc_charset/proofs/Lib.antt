@@ -1,3 +1,5 @@
 pub mod Rows
 pub mod ByteRows
 pub mod Chars
+pub mod Start
+pub mod WellFormed

@@ -11,12 +11,12 @@ abbrev pub are_filled : List Range → Bool
 are_filled [] = true
 are_filled (r ∷ rs) = leb r.least r.greatest && are_filled rs
 
-and_parts : (a b : Bool) → (a && b) ≡ true → (a ≡ true) × (b ≡ true)
+pub and_parts : (a b : Bool) → (a && b) ≡ true → (a ≡ true) × (b ≡ true)
 and_parts true true h = (refl, refl)
 and_parts true false h = absurd (cc)
 and_parts false b h = absurd (cc)
 
-count_positive : (rs : List Range) → are_filled rs ≡ true → 0 < count rs
+pub count_positive : (rs : List Range) → are_filled rs ≡ true → 0 < count rs
 count_positive [] h = omega arith
 count_positive (r ∷ rs) h =
     let p = and_parts (leb r.least r.greatest) (are_filled rs) h in
@@ -151,7 +151,7 @@ first_in_apart row (other ∷ rows) bytes n found h k l =
       | inr e ↦ first_in_apart row rows bytes n found p.1 k e
     ]
 
-guard_cases : (t : Bool) (x y : List ℕ) (o : Option (List ℕ)) → cond t (Some x) o ≡ Some y → ((t ≡ true) × (x ≡ y)) ⊎ ((t ≡ false) × (o ≡ Some y))
+pub guard_cases : (t : Bool) (x y : List ℕ) (o : Option (List ℕ)) → cond t (Some x) o ≡ Some y → ((t ≡ true) × (x ≡ y)) ⊎ ((t ≡ false) × (o ≡ Some y))
 guard_cases true x y o h = inl (refl, cc)
 guard_cases false x y o h = inr (refl, h)
 
@@ -176,7 +176,7 @@ has_code_apart row (other ∷ rows) code front h k =
       | inr e ↦ has_code_apart row rows code front p.1 e.1
     ]
 
-has_code_parts : (row : Row) (code : ℕ) → has_code row code ≡ true → (row.first ≤ code) × (code < row.first + count row.bytes)
+pub has_code_parts : (row : Row) (code : ℕ) → has_code row code ≡ true → (row.first ≤ code) × (code < row.first + count row.bytes)
 has_code_parts row code h =
     let p = and_parts (leb row.first code) (ltb code (row.first + count row.bytes)) h in
     (grind (arith, nat_tests), grind (arith, nat_tests))

@@ -4,3 +4,4 @@ pub mod Chars
 pub mod NextChar
 pub mod PutChar
 pub mod Names
+pub mod CharStart

@@ -1,0 +1,12 @@
+use Rattle.std.proofs.Common.{◌≡◌, ◌+◌, ◌≤◌, length}
+use Rattle.mc_charset.specs.Chars.{chars}
+use Rattle.mc_charset.proofs.count.count_each.Given as goal
+
+abbrev pub invariant-loop-len : goal.invariant-loop-len
+invariant-loop-len l = record {
+  in_range : l.count + length l.rest ≤ length l.text;
+  counted : l.count + length (chars l.set l.rest) ≡ length (chars l.set l.text);
+}
+
+abbrev pub decreases-loop-len : goal.decreases-loop-len
+decreases-loop-len l = length l.rest
