@@ -1,5 +1,5 @@
 ghost use Rattle.mc_charset.specs.Chars.{spell};
-ghost use Rattle.std.specs.Option.{option_map};
+ghost use Rattle.std.specs.Option.{is_some, option_map};
 ghost use Rattle.std.specs.Prelude.{◌≡◌, ◌↔◌, ◌++◌, OnOk, OnErr};
 
 use crate::charset::Charset;
@@ -35,4 +35,11 @@ pub fn put_char(set: Charset, code: u32, out: &mut Text) -> Result<(), PutChar>
         Ok(()) => Ok(()),
         Err(NoMemory) => Err(PutChar::NoMemory),
     }
+}
+
+/// Whether the set has the code point.
+pub fn has_char(set: Charset, code: u32) -> bool
+    ensures { result ≡ is_some (spell set code) }
+{
+    Spelling::of(set, code).is_some()
 }

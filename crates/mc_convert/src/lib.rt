@@ -1,0 +1,6 @@
+//! Repertoires of texts and sets, and the conversion of texts between character sets.
+#![tactic(auto)]
+
+mod repertoire;
+
+pub use repertoire::{Repertoire, cap};
