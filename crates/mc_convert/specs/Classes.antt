@@ -22,19 +22,16 @@ Has Bmp code = code < 0x10000
 Has Unicode code = Unit
 Has Bytes code = Unit
 
--- The class has the byte: Ascii those below 80, Bytes all, the others none.
-abbrev pub HasByte : Repertoire → ℕ → Type 0
-HasByte Ascii byte = byte < 0x80
-HasByte Latin1 byte = ⊥
-HasByte Bmp byte = ⊥
-HasByte Unicode byte = ⊥
-HasByte Bytes byte = Unit
+-- The class has this character of a text in the set. Of bytes, Bytes has all and the other classes those below 80.
+abbrev pub HasIn : Charset → Repertoire → ℕ → Type 0
+HasIn Binary Bytes byte = Unit
+HasIn Binary class byte = byte < 0x80
+HasIn set class code = Has class code
 
 -- The class has each of these characters of the set.
 abbrev pub HasAll : Charset → Repertoire → List ℕ → Type 0
 HasAll set class [] = Unit
-HasAll Binary class (code ∷ codes) = HasByte class code × HasAll Binary class codes
-HasAll set class (code ∷ codes) = Has class code × HasAll set class codes
+HasAll set class (code ∷ codes) = HasIn set class code × HasAll set class codes
 
 -- The repertoire of a text: the least class that has each of its characters.
 pub record IsRepertoire (set : Charset) (text : List ℕ) (class : Repertoire) : Type 0 where

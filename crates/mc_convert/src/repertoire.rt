@@ -1,8 +1,9 @@
 ghost use Rattle.mc_charset.specs.Chars.{IsWellFormed};
-ghost use Rattle.mc_convert.specs.Classes.{Has, HasAll, IsRepertoire, cap_of, rank};
+ghost use Rattle.mc_convert.specs.Classes.{Has, HasIn, IsRepertoire, cap_of, rank};
 ghost use Rattle.mc_convert.specs.declared.repertoire.Repertoire.{Repertoire};
-ghost use Rattle.std.specs.Prelude.{◌≡◌, ◌≤◌, ◌↔◌, IsTrue};
+ghost use Rattle.std.specs.Prelude.{◌≡◌, ◌≤◌, ◌↔◌, IsTrue, max};
 
+use crate::plain::is_plain;
 use mc_charset::{CharAt, Charset, has_char, next_char};
 
 /// A class of characters. The classes form a chain in this order.
@@ -26,6 +27,13 @@ impl Repertoire {
         ensures { IsTrue result ↔ (rank self ≤ rank other) }
     {
         self.place() <= other.place()
+    }
+
+    /// The later one of the two in the chain.
+    fn or_above(self, other: Repertoire) -> Repertoire
+        ensures { rank result ≡ max (rank self) (rank other) }
+    {
+        if self.is_at_most(other) { other } else { self }
     }
 
     /// Its place in the chain, from 0.
@@ -52,5 +60,61 @@ pub fn cap(set: Charset) -> Repertoire
         Charset::Utf8mb3 | Charset::Ucs2 => Repertoire::Bmp,
         Charset::Utf8mb4 | Charset::Utf16 | Charset::Utf32 => Repertoire::Unicode,
         Charset::Binary => Repertoire::Bytes,
+    }
+}
+
+/// The least class that has every character of a well-formed text.
+/// For binary it is `Ascii` where all bytes are below 80, else `Bytes`.
+pub fn repertoire_of(set: Charset, text: &[u8]) -> Repertoire
+    requires { IsWellFormed set text.now }
+    ensures { IsRepertoire set text.now result }
+{
+    if is_plain(set, text) {
+        return Repertoire::Ascii;
+    }
+    class_of_each(set, text)
+}
+
+/// Goes over one character after the other.
+fn class_of_each(set: Charset, text: &[u8]) -> Repertoire
+    ensures { IsRepertoire set text.now result }
+{
+    let mut class = Repertoire::Ascii;
+    let mut rest = text;
+    loop {
+        match next_char(set, rest) {
+            CharAt::Char { code, len } => {
+                class = class.or_above(class_in(set, code));
+                rest = &rest[len..];
+            }
+            CharAt::End | CharAt::Bad => return class,
+        }
+    }
+}
+
+/// The least class that has this character of a text in the set.
+fn class_in(set: Charset, code: u32) -> Repertoire
+    ensures { (class : Repertoire) → HasIn set class code ↔ (rank result ≤ rank class) }
+{
+    if code < 0x80 {
+        return Repertoire::Ascii;
+    }
+    match set {
+        Charset::Binary => Repertoire::Bytes,
+        _ => class_above_7f(code),
+    }
+}
+
+/// The least class that has this character above U+007F.
+fn class_above_7f(code: u32) -> Repertoire
+    requires { 0x80 ≤ code }
+    ensures { (class : Repertoire) → Has class code ↔ (rank result ≤ rank class) }
+{
+    if has_char(Charset::Latin1, code) {
+        Repertoire::Latin1
+    } else if code < 0x10000 {
+        Repertoire::Bmp
+    } else {
+        Repertoire::Unicode
     }
 }

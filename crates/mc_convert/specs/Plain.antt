@@ -1,0 +1,10 @@
+-- Texts of characters below U+0080 that are their own spellings.
+use Rattle.std.specs.Prelude.{◌≡◌, ℕ, ◌<◌, List, slice_index}
+use Rattle.mc_charset.specs.declared.charset.Charset.{Charset}
+use Rattle.mc_charset.specs.Chars.{Spells, chars}
+
+-- The set spells the text by its bytes, all below 80.
+pub record IsPlain (set : Charset) (text : List ℕ) : Type 0 where
+  pub spelled : Spells set text text
+  pub its_chars : chars set text ≡ text
+  pub below : (k : ℕ) → slice_index text k < 0x80
