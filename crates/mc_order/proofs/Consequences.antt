@@ -5,7 +5,7 @@ use Rattle.std.proofs.lemmas.List.Elements.{All-head, All-tail, All-weaker, All-
 use Rattle.mc_order.specs.Meaning.{Meaning, joined_levels, IsCharOf, AreCharsOf, IsSafe}
 use Rattle.mc_order.specs.Laws.{IsWeight, IsLawful}
 use Rattle.mc_order.specs.Consequences.{SameFirstLists, IsSameChar, SafeFrontStands, CutWithoutContractions, FloorStands, HeadsAreChars, EmptyHasNoWeights}
-use Rattle.mc_order.proofs.Characters.{AreCharsOf-parts, AreCharsOf-one}
+use Rattle.mc_order.specs.Characters.{AreCharsOf-parts, AreCharsOf-one}
 
 abbrev IsPositive : ℕ → Type 0
 IsPositive n = 1 ≤ n

@@ -1,9 +1,10 @@
 -- One step of a comparison, weight by weight.
-use Rattle.std.proofs.Common.{◌≡◌, ℕ, ◌<◌, List, [], ◌∷◌, ◌++◌, refl, ◌∙◌, arith}
+use Rattle.std.proofs.Common.{◌≡◌, ℕ, suc, ◌+◌, ◌-◌, ◌<◌, take, append_assoc, List, [], ◌∷◌, ◌++◌, refl, sym, ap, ◌∙◌, arith}
 use Rattle.std.specs.declared.cmp.Ordering.{Ordering}
 use Rattle.std.specs.declared.cmp.Ordering.TheVariants.{Less, Equal, Greater}
 use Rattle.std.specs.Ordering.{nat_cmp, ordering_then, ordering_reverse, MatchOrdering}
 use Rattle.std.proofs.lemmas.Cmp.{ranked}
+use Rattle.std.proofs.lemmas.List.{take-map}
 use Rattle.mc_order.specs.declared.pad.Pad.{Pad}
 use Rattle.mc_order.specs.declared.pad.Pad.TheVariants.{PadSpace, NoPad}
 use Rattle.mc_order.specs.Order.{order_to_end, list_order}
@@ -66,6 +67,10 @@ pub list_order-end_left : (pad : Pad) (space : ℕ) (ys : List ℕ) →
 unfolding list_order
 list_order-end_left pad space ys = refl
 
+take_one : (more left : List ℕ) (weight n m : ℕ) → left ≡ weight ∷ more → n ≡ suc m →
+    take n left ≡ weight ∷ take m more
+take_one more left weight n m is e = ap (take n) is ∙ ap (λ k. take k (weight ∷ more)) e
+
 pub list_order-none : (pad : Pad) (space : ℕ) → list_order pad space [] [] ≡ Equal
 unfolding list_order order_to_end
 list_order-none pad space = refl
@@ -89,3 +94,15 @@ pub ruleset steps = (
   list_order-end_left,
   list_order-none,
 )
+
+-- One more of the first `count` weights is appended.
+pub put_one_of : (out old more left : List ℕ) (weight count at : ℕ) → left ≡ weight ∷ more →
+    at < count → out ++ take (count - at) left ≡ old →
+    (out ++ weight ∷ []) ++ take (count - (at + 1)) more ≡ old
+put_one_of out old more left weight count at is below e =
+    append_assoc out (weight ∷ []) (take (count - (at + 1)) more)
+    ∙ ap (λ t. out ++ t) (sym (take_one more left weight (count - at) (count - (at + 1)) is
+    (omega arith)))
+    ∙ e
+
+pub ruleset cuts = (take-map)

@@ -1,7 +1,8 @@
 ghost use Rattle.mc_order.specs.Order.{order_to_end, list_order};
-ghost use Rattle.std.specs.Prelude.{◌≡◌, ℕ, List, [], ◌∷◌, MatchOption};
+ghost use Rattle.std.specs.Prelude.{◌≡◌, ℕ, List, [], ◌∷◌, ◌++◌, take, MatchOption, OnOk, OnErr};
 
 use crate::Pad;
+use mc_base::{NoMemory, Weights};
 use std::cmp::Ordering;
 
 /// The weights of a text, one after the other, without a list of them.
@@ -54,4 +55,43 @@ fn order_to_spaces<S: WeightStream>(stream: &mut S, space: u32) -> Ordering
         }
     }
     Ordering::Equal
+}
+
+/// Appends the weights that a stream still gives. Without memory `out` stays as it was.
+pub fn put_weights<S: WeightStream>(stream: &mut S, out: &mut Weights) -> Result<(), NoMemory>
+    ensures ok { OnOk result (out.new ≡ out.old ++ S.left stream.old) }
+    ensures err { OnErr result (out.new ≡ out.old) }
+{
+    let before = out.len();
+    while let Some(weight) = stream.next_weight() {
+        if let Err(error) = out.push(weight) {
+            out.truncate(before);
+            return Err(error);
+        }
+    }
+    Ok(())
+}
+
+/// Appends the first `count` weights that a stream still gives, or all where there are no more.
+/// Without memory `out` stays as it was.
+#[tactic(auto, using(crate::proofs::Steps::put_one_of))]
+pub fn put_first_weights<S: WeightStream>(
+    stream: &mut S,
+    count: u32,
+    out: &mut Weights,
+) -> Result<(), NoMemory>
+    ensures ok { OnOk result (out.new ≡ out.old ++ take count (S.left stream.old)) }
+    ensures err { OnErr result (out.new ≡ out.old) }
+{
+    let before = out.len();
+    for _ in 0..count {
+        let Some(weight) = stream.next_weight() else {
+            return Ok(());
+        };
+        if let Err(error) = out.push(weight) {
+            out.truncate(before);
+            return Err(error);
+        }
+    }
+    Ok(())
 }

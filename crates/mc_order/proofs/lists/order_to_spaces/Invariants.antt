@@ -5,4 +5,5 @@ use Rattle.mc_order.proofs.lists.order_to_spaces.Given as goal
 
 abbrev pub invariant-loop-weight : goal.invariant-loop-weight
 invariant-loop-weight l =
-    order_to_end PadSpace l.space (drop l.weight-index l.list) ≡ order_to_end PadSpace l.space l.list
+    order_to_end PadSpace l.space
+    (drop l.weight-index l.list) ≡ order_to_end PadSpace l.space l.list

@@ -1,0 +1,132 @@
+-- The binary collations keep the laws.
+use Rattle.std.proofs.Common.{◌≡◌, ◌⊎◌, ℕ, zero, suc, ◌+◌, ◌-◌, ◌^◌, ◌<◌, ◌≤◌, Bool, true, false, cond, List, [], ◌∷◌, ◌++◌, Some, map, length, take, drop, append-nil, refl, sym, ap, ◌∙◌, inl, inr, arith}
+use Rattle.std.specs.List.{All, Contains}
+use Rattle.std.proofs.lemmas.List.Elements.{All-nil, All-cons}
+use Rattle.mc_charset.specs.declared.charset.Charset.{Charset}
+use Rattle.mc_charset.specs.declared.charset.Charset.TheVariants.{Latin1, Ascii, Utf8mb3, Utf8mb4, Ucs2, Utf16, Utf32, Binary}
+use Rattle.mc_charset.specs.Chars.{spell, Spells}
+use Rattle.mc_order.specs.declared.pad.Pad.{Pad}
+use Rattle.mc_order.specs.declared.pad.Pad.TheVariants.{PadSpace, NoPad}
+use Rattle.mc_order.specs.Meaning.{Meaning, IsCharOf, AreCharsOf, IsTail}
+use Rattle.mc_order.specs.Laws.{KeepsSpace, KeepsSettings, KeepsBounds, IsWeight, KeepsCut, IsCut, KeepsHead, KeepsFloor, KeepsTails, HasWeightPerChar, IsLawful}
+use Rattle.mc_order.specs.Bin.{is_one_byte, first_byte, bin_number, bin_space, bin_meaning}
+use Rattle.mc_order.specs.Characters.{AreCharsOf-parts}
+use Rattle.mc_order.specs.Spelling.{code_below, one_byte}
+
+space_number : (set : Charset) → bin_number set 0x20 + 1 ≡ 0x21
+unfolding bin_number spell
+space_number Latin1 = refl
+space_number Ascii = refl
+space_number Utf8mb3 = refl
+space_number Utf8mb4 = refl
+space_number Ucs2 = refl
+space_number Utf16 = refl
+space_number Utf32 = refl
+space_number Binary = refl
+
+bin_space_weight : (set : Charset) (pad : Pad) → KeepsSpace pad (bin_meaning (set, pad))
+bin_space_weight set PadSpace = ap (λ w. w ∷ []) (space_number set)
+bin_space_weight set NoPad = refl
+
+width_some : (one : Bool) → 1 ≤ cond one 1 3
+width_some true = omega arith
+width_some false = omega arith
+
+width_three : (one : Bool) → cond one 1 3 ≤ 3
+width_three true = omega arith
+width_three false = omega arith
+
+bin_settings : (set : Charset) (pad : Pad) → KeepsSettings (bin_meaning (set, pad))
+bin_settings set pad = record {
+  some_level = omega arith;
+  three_levels = omega arith;
+  levels_unpadded = λ more. absurd (omega arith);
+  some_width = width_some (is_one_byte set);
+  three_wide = width_three (is_one_byte set);
+  one_added = omega arith;
+  space_weight = bin_space_weight set pad;
+}
+
+number_fits : (set : Charset) (one : Bool) (code : ℕ) (text : List ℕ) → is_one_byte set ≡ one →
+    spell set code ≡ Some text →
+    (bin_number set code < 256 ^ cond one 1 3) × (bin_number set code < 0x110000)
+unfolding bin_number
+number_fits set true code text is s =
+    let h = one_byte set code text is s in
+    let b : first_byte (spell set code) ≡ h.0 =
+    ap first_byte s ∙ ap (λ t. first_byte (Some t)) h.1 in
+    rw is (let l = h.2 in (omega arith, omega arith))
+number_fits set false code text is s = let h =
+    code_below set code text s in rw is (omega arith, omega arith)
+
+back : (n : ℕ) → n + 1 - 1 ≡ n
+back n = omega arith
+
+bin_weight_fits : (set : Charset) (pad : Pad) (code : ℕ) → IsCharOf set code →
+    IsWeight (bin_meaning (set, pad)) (bin_number set code + 1)
+bin_weight_fits set pad code c =
+    let h = number_fits set (is_one_byte set) code c.0 refl c.1 in
+    let l = h.0 in let u = h.1 in
+    (omega arith, omega arith, omega arith, rw (back (bin_number set code)) l)
+
+bin_bounds : (set : Charset) (pad : Pad) (codes : List ℕ) → AreCharsOf set codes →
+    All (IsWeight (bin_meaning (set, pad))) (map (λ code. bin_number set code + 1) codes)
+bin_bounds set pad [] chars = All-nil (IsWeight (bin_meaning (set, pad)))
+bin_bounds set pad (c ∷ cs) chars =
+    let parts = AreCharsOf-parts set c cs chars in
+    All-cons (IsWeight (bin_meaning (set, pad))) (bin_number set c + 1) (map
+    (λ code. bin_number set code + 1) cs) (bin_weight_fits set pad c parts.0)
+    (bin_bounds set pad cs parts.1)
+
+map-split : (f : ℕ → ℕ) (k : ℕ) (xs : List ℕ) → map f xs ≡ map f (take k xs) ++ map f (drop k xs)
+map-split f zero xs = refl
+map-split f (suc k) [] = refl
+map-split f (suc k) (x ∷ xs) = ap (λ t. f x ∷ t) (map-split f k xs)
+
+more : {k n : ℕ} {P : Type 0} → (k ≤ n) ⊎ P → (suc k ≤ suc n) ⊎ P
+more (inl h) = inl (omega arith)
+more (inr h) = inr h
+
+enough : (f : ℕ → ℕ) (k : ℕ) (xs : List ℕ) →
+    (k ≤ length (map f (take k xs))) ⊎ (map f (drop k xs) ≡ [])
+enough f zero xs = inl (omega arith)
+enough f (suc k) [] = inr refl
+enough f (suc k) (x ∷ xs) = more (enough f k xs)
+
+bin_cut : (set : Charset) (pad : Pad) (k : ℕ) (codes : List ℕ) →
+    IsCut (bin_meaning (set, pad)) k codes
+bin_cut set pad k codes =
+    let f : ℕ → ℕ = λ code. bin_number set code + 1 in (
+      map f (take k codes),
+      [],
+      map f (drop k codes),
+      sym (append-nil (map f
+          (take k codes))),
+      map-split f k codes,
+      inl refl,
+      enough f k codes,
+    )
+
+bin_weights : (set : Charset) (pad : Pad) → HasWeightPerChar (bin_meaning (set, pad))
+bin_weights set pad = (refl, λ code c e. cc)
+
+no_tails : {X : Type 0} (x : X) → Contains [] x → ⊥
+no_tails x h = let k = h.1 in omega arith
+
+bin_tails : (set : Charset) (pad : Pad) → KeepsTails (bin_meaning (set, pad))
+bin_tails set pad = record {
+  each = λ weights. ((λ h. absurd (no_tails weights h)), λ h. absurd (no_tails (h.1 ++ h.2) h.5));
+  ordered = λ i j less below. absurd (omega arith);
+}
+
+pub bin_lawful : (bin : Charset × Pad) → IsLawful (bin_meaning bin)
+bin_lawful (set, pad) = record {
+  settings = bin_settings set pad;
+  bounds = λ level codes some within chars. bin_bounds set pad codes chars;
+  empty = λ level some within. refl;
+  cut = λ k codes chars. bin_cut set pad k codes;
+  head = λ level code codes some within chars head. refl;
+  floor_of = λ k. ((λ weights. refl), λ none. absurd (none (bin_weights set pad)));
+  contractions_of = All-nil (λ codes. (2 ≤ length codes) × AreCharsOf set codes);
+  tails_of = bin_tails set pad;
+}
