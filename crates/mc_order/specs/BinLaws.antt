@@ -4,12 +4,12 @@ use Rattle.std.specs.List.{All, Contains}
 use Rattle.std.proofs.lemmas.List.Elements.{All-nil, All-cons}
 use Rattle.mc_charset.specs.declared.charset.Charset.{Charset}
 use Rattle.mc_charset.specs.declared.charset.Charset.TheVariants.{Latin1, Ascii, Utf8mb3, Utf8mb4, Ucs2, Utf16, Utf32, Binary}
-use Rattle.mc_charset.specs.Chars.{spell, Spells}
+use Rattle.mc_charset.specs.Chars.{spell}
 use Rattle.mc_order.specs.declared.pad.Pad.{Pad}
 use Rattle.mc_order.specs.declared.pad.Pad.TheVariants.{PadSpace, NoPad}
-use Rattle.mc_order.specs.Meaning.{Meaning, IsCharOf, AreCharsOf, IsTail}
-use Rattle.mc_order.specs.Laws.{KeepsSpace, KeepsSettings, KeepsBounds, IsWeight, KeepsCut, IsCut, KeepsHead, KeepsFloor, KeepsTails, HasWeightPerChar, IsLawful}
-use Rattle.mc_order.specs.Bin.{is_one_byte, first_byte, bin_number, bin_space, bin_meaning}
+use Rattle.mc_order.specs.Meaning.{IsCharOf, AreCharsOf}
+use Rattle.mc_order.specs.Laws.{KeepsSpace, KeepsSettings, IsWeight, IsCut, KeepsTails, HasWeightPerChar, IsLawful}
+use Rattle.mc_order.specs.Bin.{is_one_byte, first_byte, bin_number, bin_meaning}
 use Rattle.mc_order.specs.Characters.{AreCharsOf-parts}
 use Rattle.mc_order.specs.Spelling.{code_below, one_byte}
 

@@ -33,7 +33,7 @@ impl BinCollation {
     /// `utf8mb4_bin`, `ucs2_bin`, `utf16_bin`, `utf32_bin`, `utf8mb4_0900_bin`.
     pub fn new(id: CollId) -> BinCollation
         requires { id.0 ≤ 8 }
-        ensures { result ≡ slice_index_or built_in id.0 result }
+        ensures { result ≡ slice_index_or built_in id.0 (Charset.Binary, Pad.NoPad) }
     {
         let (charset, pad) = match id.0 {
             0 => (Charset::Binary, Pad::NoPad),
