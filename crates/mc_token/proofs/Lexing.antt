@@ -46,9 +46,9 @@ pub tokens-step : (place : ℕ) (bytes : List ℕ) (at : ℕ) (spelling : Spelli
 tokens-step place bytes at spelling h no_space some long =
     let behind = drop (at + 1) bytes in
     let rest : tokens_behind (spelling.len - 1) (place + 1) behind ≡ tokens_in (place + spelling.len) (drop (at + spelling.len) bytes) =
-        tokens_behind-drop (spelling.len - 1) (place + 1) behind
-        ∙ ap (λ p. tokens_in p (drop (spelling.len - 1) behind)) (omega arith)
-        ∙ ap (tokens_in (place + spelling.len)) (drop-drop (spelling.len - 1) (at + 1) bytes ∙ ap (λ n. drop n bytes) (omega arith)) in
+    tokens_behind-drop (spelling.len - 1) (place + 1) behind
+    ∙ ap (λ p. tokens_in p (drop (spelling.len - 1) behind)) (omega arith)
+    ∙ ap (tokens_in (place + spelling.len)) (drop-drop (spelling.len - 1) (at + 1) bytes ∙ ap (λ n. drop n bytes) (omega arith)) in
     tokens-front place bytes at spelling h no_space some
     ∙ ap (with_front (token_of place spelling (drop at bytes) ∷ [])) rest
 
@@ -62,7 +62,7 @@ fault-by (Some spelling) bytes at h no_space e = tt
 pub token-by : (found : Option Spelling) (bytes : List ℕ) (at : ℕ) → at < length bytes → is_space (get_or bytes at 0) ≡ false
     → found ≡ spelling_of (get_or bytes at 0) (drop (at + 1) bytes) → IfSome found (λ spelling. 0 < spelling.len)
     → IfSome found (λ spelling. (place : ℕ) → tokens_in place (drop at bytes)
-        ≡ with_front (token_of place spelling (drop at bytes) ∷ []) (tokens_in (place + spelling.len) (drop (at + spelling.len) bytes)))
+    ≡ with_front (token_of place spelling (drop at bytes) ∷ []) (tokens_in (place + spelling.len) (drop (at + spelling.len) bytes)))
 token-by None bytes at h no_space e long = tt
 token-by (Some spelling) bytes at h no_space e long = λ place. tokens-step place bytes at spelling h no_space (sym e) long
 

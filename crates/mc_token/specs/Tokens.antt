@@ -18,7 +18,8 @@ with_front front (Err fault) = Err fault
 abbrev pub token_of : ℕ → Spelling → List ℕ → Token
 token_of at spelling bytes = record {
   span = record { start = at; end = at + spelling.len };
-  kind = lexeme_of spelling.shape (take spelling.len bytes) }
+  kind = lexeme_of spelling.shape (take spelling.len bytes);
+}
 
 -- The tokens behind the first `skipped` of these bytes, which begin at a place of the script.
 unfoldable pub tokens_behind : ℕ → ℕ → List ℕ → Result (List Token) LexFault
@@ -27,8 +28,9 @@ tokens_behind (suc skipped) at (byte ∷ behind) = tokens_behind skipped (at + 1
 tokens_behind zero at (byte ∷ behind) =
     if is_space byte then tokens_behind zero (at + 1) behind
     else elim (spelling_of byte behind) [
-      None ↦ Err (NoToken at)
-    | Some spelling ↦ with_front (token_of at spelling (byte ∷ behind) ∷ []) (tokens_behind (spelling.len - 1) (at + 1) behind) ]
+      | None ↦ Err (NoToken at)
+      | Some spelling ↦ with_front (token_of at spelling (byte ∷ behind) ∷ []) (tokens_behind (spelling.len - 1) (at + 1) behind)
+    ]
 
 -- The tokens of these bytes, which begin at a place of the script.
 abbrev pub tokens_in : ℕ → List ℕ → Result (List Token) LexFault

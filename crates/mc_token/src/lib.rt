@@ -6,6 +6,8 @@ mod lexeme;
 mod reading;
 mod spelling;
 mod statement;
+#[cfg(test)]
+mod tests;
 mod token;
 
 pub use lexeme::{LexFault, Lexeme, Symbol, Token};

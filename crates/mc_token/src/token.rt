@@ -1,9 +1,33 @@
 ghost use Rattle.std.specs.Prelude.{
-    ◌≡◌, ℕ, [], ◌∷◌, ◌+◌, ◌<◌, ◌≤◌, ◌^◌, false, Ok, Err, List, drop, length, slice_index, IfSome, IfNone, IfOk, IfErr,
+  ◌≡◌,
+  ℕ,
+  [],
+  ◌∷◌,
+  ◌+◌,
+  ◌<◌,
+  ◌≤◌,
+  ◌^◌,
+  false,
+  Ok,
+  Err,
+  List,
+  drop,
+  length,
+  slice_index,
+  IfSome,
+  IfNone,
+  IfOk,
+  IfErr,
 };
 ghost use Rattle.mc_token.specs.Bytes.{is_space};
 ghost use Rattle.mc_token.specs.Tokens.{
-    with_front, token_of, tokens_in, limited, fault_of, IsCause, tokens_of,
+  with_front,
+  token_of,
+  tokens_in,
+  limited,
+  fault_of,
+  IsCause,
+  tokens_of,
 };
 
 use crate::element::is_space;
@@ -97,7 +121,7 @@ fn spelling_at(bytes: &[u8], at: usize) -> Option<Spelling>
         tokens_in place (drop at bytes.now) ≡ Err (LexFault.NoToken place)) }
     ensures some { IfSome result (λ spelling. (place : ℕ) → tokens_in place (drop at bytes.now)
         ≡ with_front (token_of place spelling (drop at bytes.now) ∷ [])
-            (tokens_in (place + spelling.len) (drop (at + spelling.len) bytes.now))) }
+        (tokens_in (place + spelling.len) (drop (at + spelling.len) bytes.now))) }
     ensures not_empty { IfSome result (λ spelling. 0 < spelling.len) }
     ensures quotes { IfSome result (λ spelling. spelling.shape ≡ Shape.Str → 2 ≤ spelling.len) }
     ensures within { IfSome result (λ spelling. at + spelling.len ≤ length bytes.now) }

@@ -8,5 +8,5 @@ use Rattle.mc_token.proofs.spelling.word_len.Goals as goal
 pub returns-clause-value : goal.returns-clause-value
 returns-clause-value c =
     let found : c.position.result ≡ position (λ byte. not (continues_word byte)) c.args.bytes.now =
-        position_from_yields_List (λ byte. not (continues_word byte)) _ _ c.position.result c.position.ensures.ran (YieldsList-from_slice c.args.bytes.now cc) (λ x b q k. search (rules, tests)) in
+    position_from_yields_List (λ byte. not (continues_word byte)) _ _ c.position.result c.position.ensures.ran (YieldsList-from_slice c.args.bytes.now cc) (λ x b q k. search (rules, tests)) in
     cc

@@ -8,7 +8,8 @@ abbrev pub invariant-loop-at : goal.invariant-loop-at
 invariant-loop-at l = record {
   same : fault_of (tokens_in (l.start + l.from) (drop l.from l.bytes)) ≡ fault_of (tokens_in (l.start + l.at) (drop l.at l.bytes));
   no_space : l.at < length l.bytes → is_space (get_or l.bytes l.at 0) ≡ false;
-  within : l.at ≤ length l.bytes }
+  within : l.at ≤ length l.bytes;
+}
 
 abbrev pub decreases-loop-at : goal.decreases-loop-at
 decreases-loop-at l = length l.bytes - l.at

@@ -7,7 +7,8 @@ abbrev pub invariant-loop-at : goal.invariant-loop-at
 invariant-loop-at l = record {
   same : (place : ℕ) → tokens_in (place + l.from) (drop l.from l.bytes) ≡ tokens_in (place + l.at) (drop l.at l.bytes);
   goes_on : l.from ≤ l.at;
-  within : l.at ≤ length l.bytes }
+  within : l.at ≤ length l.bytes;
+}
 
 abbrev pub decreases-loop-at : goal.decreases-loop-at
 decreases-loop-at l = length l.bytes - l.at

@@ -25,10 +25,11 @@ loop-at-preserved c =
     let goes_on : behind ≡ left = ap (λ p. tokens_in p (drop (loop.at + spelling.len) bytes)) (omega arith) ∙ next.ensures.same start in
     record {
       same = token-moves loop.tokens c.push.new.self c.in_ok-token_at.field-0 (token_of (start + loop.at) spelling (drop loop.at bytes)) here behind left (tokens_in start bytes)
-        c.in_ok-push.ensures.ok c.in_ok-token_at.ensures (c.in-Some.ensures.some (start + loop.at)) goes_on loop.invariant.same;
+          c.in_ok-push.ensures.ok c.in_ok-token_at.ensures (c.in-Some.ensures.some (start + loop.at)) goes_on loop.invariant.same;
       few = omega (arith, ap length c.in_ok-push.ensures.ok, length-append loop.tokens (c.in_ok-token_at.field-0 ∷ []));
       no_space = next.ensures.no_space;
-      within = next.ensures.within }
+      within = next.ensures.within;
+    }
 
 pub returns-clause-ok : goal.returns-clause-ok
 returns-clause-ok c =

@@ -9,7 +9,8 @@ invariant-loop-at l = record {
   same : with_front l.tokens (tokens_in (l.start + l.at) (drop l.at l.bytes)) ≡ tokens_in l.start l.bytes;
   few : length l.tokens ≤ token_limit;
   no_space : l.at < length l.bytes → is_space (get_or l.bytes l.at 0) ≡ false;
-  within : l.at ≤ length l.bytes }
+  within : l.at ≤ length l.bytes;
+}
 
 abbrev pub decreases-loop-at : goal.decreases-loop-at
 decreases-loop-at l = length l.bytes - l.at
