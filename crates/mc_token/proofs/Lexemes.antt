@@ -12,14 +12,14 @@ content-done quote bytes at h = at_drop_all (content quote) bytes at h
 
 -- at the front of a list
 content-front : (quote byte : ℕ) (behind : List ℕ) → content quote (byte ∷ behind)
-    ≡ cond (ltb 0 (length behind) && (byte == backslash || byte == quote)) (pair byte (get_or behind 0 0) ++ content quote (drop 1 behind)) (byte ∷ content quote behind)
+    ≡ cond (ltb 0 (length behind) && (byte == backslash || (byte == quote && get_or behind 0 0 == quote))) (pair byte (get_or behind 0 0) ++ content quote (drop 1 behind)) (byte ∷ content quote behind)
 unfolding content
 content-front quote byte [] = refl
 content-front quote byte (next ∷ behind) = grind (arith, nat_tests)
 
 -- The byte at a place and the next one are an escape or a doubled quote.
 abbrev pub is_pair : ℕ → List ℕ → ℕ → Bool
-is_pair quote bytes at = ltb (at + 1) (length bytes) && (get_or bytes at 0 == backslash || get_or bytes at 0 == quote)
+is_pair quote bytes at = ltb (at + 1) (length bytes) && (get_or bytes at 0 == backslash || (get_or bytes at 0 == quote && get_or bytes (at + 1) 0 == quote))
 
 content-step : (quote : ℕ) (bytes : List ℕ) (at : ℕ) → at < length bytes → content quote (drop at bytes)
     ≡ cond (is_pair quote bytes at)

@@ -1,5 +1,5 @@
 -- What a token says, by the bytes that spell it: MySQL 8.0 manual, 9.1.1 (table 9.1) and 9.2.
-use Rattle.std.specs.Prelude.{ℕ, ◌-◌, ◌||◌, ◌==◌, List, [], ◌∷◌, ◌++◌, map, take, drop, length, slice_index, if◌then◌else◌}
+use Rattle.std.specs.Prelude.{ℕ, ◌-◌, ◌||◌, ◌&&◌, ◌==◌, List, [], ◌∷◌, ◌++◌, map, take, drop, length, slice_index, if◌then◌else◌}
 use Rattle.std.specs.Char.{to_ascii_lowercase}
 use Rattle.mc_token.specs.Bytes.{backslash}
 use Rattle.mc_token.specs.declared.lexeme.Lexeme.{Lexeme}
@@ -29,7 +29,7 @@ unfoldable pub content : ℕ → List ℕ → List ℕ
 content quote [] = []
 content quote (byte ∷ []) = byte ∷ []
 content quote (byte ∷ next ∷ behind) =
-    if byte == backslash || byte == quote then pair byte next ++ content quote behind
+    if byte == backslash || (byte == quote && next == quote) then pair byte next ++ content quote behind
     else byte ∷ content quote (next ∷ behind)
 
 -- The bytes between the first and the last.

@@ -55,10 +55,12 @@ fn content(alloc: Global, quote: u8, inside: &[u8]) -> Result<Text, NoMemory>
 fn begins_pair(quote: u8, inside: &[u8], at: usize) -> bool
     requires { at < length inside.now }
     ensures value { result ≡ (nat_lt (at + 1) (length inside.now)
-        && (slice_index inside.now at == backslash || slice_index inside.now at == quote)) }
+        && (slice_index inside.now at == backslash
+            || (slice_index inside.now at == quote && slice_index inside.now (at + 1) == quote))) }
     ensures within { IsTrue result → at + 1 < length inside.now }
 {
-    at + 1 < inside.len() && (inside[at] == b'\\' || inside[at] == quote)
+    at + 1 < inside.len()
+        && (inside[at] == b'\\' || (inside[at] == quote && inside[at + 1] == quote))
 }
 
 /// Appends what a backslash or a quote inside a string stands for, with the byte behind it.
