@@ -1,0 +1,14 @@
+//! The trees of the statements: what a reading of the tokens means. In reading order: [`Statement`]
+//! and [`Expr`]; then `Meaning`, which says what each alternative of the grammar means, and `Trees`
+//! of `specs/`; then [`trees_are_unique`].
+#![tactic(auto)]
+
+mod expr;
+mod operators;
+mod statement;
+mod trees;
+
+pub use expr::{Expr, Form};
+pub use operators::{ArithOp, CmpOp, Cut, TrimSide};
+pub use statement::{Item, OrderItem, Statement};
+pub use trees::trees_are_unique;
