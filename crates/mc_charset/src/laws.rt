@@ -1,6 +1,7 @@
 ghost use Rattle.mc_charset.specs.Chars.{spell, chars, Spells, IsWellFormed};
 ghost use Rattle.mc_charset.specs.declared.charset.Charset.{Charset};
-ghost use Rattle.std.specs.Prelude.{◌≡◌, ℕ, List, Some, ◌++◌, []};
+ghost use Rattle.mc_charset.specs.declared.charset.Charset.TheVariants.{Utf8mb4};
+ghost use Rattle.std.specs.Prelude.{IsUtf8, ◌≡◌, ℕ, List, Some, ◌++◌, []};
 
 /// The laws of spellings: at most one list of characters spells a text, and `chars` is that list;
 /// no spelling of a set is a proper prefix of another one of the set; joined lists spell joined texts.
@@ -12,4 +13,10 @@ pub fn chars_law()
         → spell set code ≡ Some front → spell set other ≡ Some (front ++ more) → (code ≡ other) × (more ≡ []) }
     ensures joins { (set : Charset) (codes more text rest : List ℕ)
         → Spells set codes text → Spells set more rest → Spells set (codes ++ more) (text ++ rest) }
+{}
+
+/// utf8mb4 is UTF-8: its well formed texts are those that std takes for UTF-8.
+pub fn utf8_law()
+    ensures read { (text : List ℕ) → IsUtf8 text → IsWellFormed Utf8mb4 text }
+    ensures written { (text : List ℕ) → IsWellFormed Utf8mb4 text → IsUtf8 text }
 {}
