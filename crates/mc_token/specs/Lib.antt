@@ -4,3 +4,4 @@ pub mod Statements
 pub mod Spellings
 pub mod Lexemes
 pub mod Tokens
+pub mod TokenLaws

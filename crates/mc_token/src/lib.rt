@@ -2,6 +2,7 @@
 #![tactic(auto)]
 
 mod element;
+mod laws;
 mod lexeme;
 mod reading;
 mod spelling;
@@ -10,6 +11,7 @@ mod statement;
 mod tests;
 mod token;
 
+pub use laws::token_laws;
 pub use lexeme::{LexFault, Lexeme, Symbol, Token};
 pub use statement::next_statement;
 pub use token::tokens;

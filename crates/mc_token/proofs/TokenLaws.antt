@@ -1,0 +1,292 @@
+-- The laws of the tokens of a statement, by what begins at a byte.
+use Rattle.std.proofs.Common.{◌≡◌, ℕ, ◌+◌, ◌-◌, ◌<◌, ◌≤◌, ◌==◌, ◌||◌, not, Bool, true, false, List, [], ◌∷◌, Option, Some, None, Result, Ok, Err, unwrap_or, position, length, take, drop, get_or, suc, zero, inl, inr, ◌⊎◌, refl, ap, sym, subst, ◌∙◌, length-take, length-drop, subst₂, arith}
+use Rattle.std.specs.Prelude.{slice_range, nat_le}
+use Rattle.std.specs.Str.{IsUtf8}
+use Rattle.std.proofs.lemmas.Bool.Decides.{nat_tests}
+use Rattle.std.proofs.lemmas.List.{take-take}
+use Rattle.std.proofs.lemmas.Option.{same_Some}
+use Rattle.std.proofs.lemmas.List.Quantifiers.{position-Some}
+use Rattle.mc_base.specs.declared.span.Span.{Span}
+use Rattle.mc_token.specs.Bytes.{is_space, begins_word, continues_word, single_quote, double_quote, equals}
+use Rattle.mc_token.specs.Elements.{quote_end}
+use Rattle.mc_token.specs.Spellings.{word_len, string_spelling, spelling_of}
+use Rattle.mc_token.specs.Lexemes.{content, inside, lexeme_of}
+use Rattle.mc_token.specs.Tokens.{with_front, token_of, tokens_behind, tokens_in, limited, token_limit, tokens_of}
+use Rattle.mc_token.specs.TokenLaws.{AreInOrder, HasUtf8Text, HaveUtf8Texts}
+use Rattle.mc_token.specs.declared.lexeme.Symbol.TheVariants.{Eq}
+use Rattle.mc_token.specs.declared.lexeme.Token.{Token}
+use Rattle.mc_token.specs.declared.lexeme.LexFault.{LexFault}
+use Rattle.mc_token.specs.declared.lexeme.LexFault.TheVariants.{NoToken, TooManyTokens}
+use Rattle.mc_token.specs.declared.spelling.Spelling.{Spelling}
+use Rattle.mc_token.specs.declared.spelling.Shape.{Shape}
+use Rattle.mc_token.specs.declared.spelling.Shape.TheVariants.{Word, Str, Sym}
+use Rattle.mc_token.proofs.TokenLawsCuts.{AreCutsUtf8, cuts-behind, cuts-slice}
+use Rattle.mc_token.proofs.TokenLawsText.{Closed, closed, content-utf8}
+
+-- What begins at a byte
+
+-- A token begins at this byte, and these are all the tokens.
+record Begun (at byte : ℕ) (behind : List ℕ) (tokens : List Token) : Type 0 where
+  spelling : Spelling
+  rest : List Token
+  spelled : spelling_of byte behind ≡ Some spelling
+  lexed : tokens_behind (spelling.len - 1) (at + 1) behind ≡ Ok rest
+  all : tokens ≡ token_of at spelling (byte ∷ behind) ∷ rest
+
+front-Ok : (token : Token) (lexed : Result (List Token) LexFault) (tokens : List Token)
+    → with_front (token ∷ []) lexed ≡ Ok tokens
+    → (rest : List Token) × (lexed ≡ Ok rest) × (tokens ≡ token ∷ rest)
+front-Ok token (Ok rest) tokens e = (rest, refl, cc)
+front-Ok token (Err fault) tokens e = absurd (cc)
+
+begun-by : (at byte : ℕ) (behind : List ℕ) (tokens : List Token)
+    (space : Bool) (found : Option Spelling)
+    → is_space byte ≡ space → spelling_of byte behind ≡ found
+    → tokens_behind zero at (byte ∷ behind) ≡ Ok tokens
+    → (tokens_behind zero (at + 1) behind ≡ Ok tokens) ⊎ Begun at byte behind tokens
+unfolding tokens_behind
+begun-by at byte behind tokens true found s f e = inl (rw s at e)
+begun-by at byte behind tokens false None s f e =
+    let no : Err (NoToken at) ≡ Ok tokens = rw (s, f) at e in absurd (cc)
+begun-by at byte behind tokens false (Some spelling) s f e =
+    let token = token_of at spelling (byte ∷ behind) in
+    let lexed = tokens_behind (spelling.len - 1) (at + 1) behind in
+    let all : with_front (token ∷ []) lexed ≡ Ok tokens = rw (s, f) at e in
+    let parts = front-Ok token lexed tokens all in
+    inr (record {
+      spelling = spelling;
+      rest = parts.0;
+      spelled = f;
+      lexed = parts.1;
+      all = parts.2;
+    })
+
+-- A space, and then all the tokens; or a token.
+begun : (at byte : ℕ) (behind : List ℕ) (tokens : List Token)
+    → tokens_behind zero at (byte ∷ behind) ≡ Ok tokens
+    → (tokens_behind zero (at + 1) behind ≡ Ok tokens) ⊎ Begun at byte behind tokens
+begun at byte behind tokens e =
+    begun-by at byte behind tokens (is_space byte) (spelling_of byte behind) refl refl e
+
+none-left : (skipped at : ℕ) (tokens : List Token) → tokens_behind skipped at [] ≡ Ok tokens
+    → tokens ≡ []
+unfolding tokens_behind
+none-left skipped at tokens e = cc
+
+skip-one : (skipped at byte : ℕ) (behind : List ℕ)
+    → tokens_behind (suc skipped) at (byte ∷ behind) ≡ tokens_behind skipped (at + 1) behind
+unfolding tokens_behind
+skip-one skipped at byte behind = refl
+
+-- What a spelling is
+
+-- The bytes of this shape are quoted, if they are a string.
+abbrev IsQuoted : Shape → ℕ → ℕ → List ℕ → Type 0
+IsQuoted Str len first behind =
+    (first < 128) × ((end : ℕ) × ((len ≡ 1 + end) × Closed first 0 behind end))
+IsQuoted other len first behind = Unit {0}
+
+-- A spelling has a byte or more, and no more than there are.
+record Spelled (first : ℕ) (behind : List ℕ) (spelling : Spelling) : Type 0 where
+  some : 0 < spelling.len
+  within : spelling.len ≤ 1 + length behind
+  quoted : IsQuoted spelling.shape spelling.len first behind
+
+len-within : (bytes : List ℕ) (found : Option ℕ)
+    → position (λ byte. not (continues_word byte)) bytes ≡ found
+    → unwrap_or found (length bytes) ≤ length bytes
+len-within bytes None e = omega arith
+len-within bytes (Some len) e =
+    let found = position-Some (λ byte. not (continues_word byte)) bytes len 0 e in
+    omega (arith, found.0)
+
+spelled-word : (first : ℕ) (behind : List ℕ)
+    → Spelled first behind (record { shape = Word; len = 1 + word_len behind })
+spelled-word first behind =
+    let len = len-within behind (position (λ byte. not (continues_word byte)) behind) refl in
+    record { some = omega arith; within = omega (arith, len); quoted = tt }
+
+spelled-string : (first : ℕ) (behind : List ℕ) (found : Option ℕ) (spelling : Spelling)
+    → first < 128 → quote_end first 0 behind ≡ found
+    → string_spelling found ≡ Some spelling → Spelled first behind spelling
+spelled-string first behind None spelling low e s = absurd (cc)
+spelled-string first behind (Some end) spelling low e s =
+    let c = closed first 0 behind end e in
+    let same = same_Some (record { shape = Str; len = 1 + end }) spelling s in
+    subst (Spelled first behind) same (record {
+      some = omega arith;
+      within = omega (arith, c.place, c.within);
+      quoted = (low, (end, (refl, c)));
+    })
+
+quote-low : (first : ℕ) → (first == single_quote || first == double_quote) ≡ true → first < 128
+quote-low first quote = grind (arith, nat_tests)
+
+spelled-by : (first : ℕ) (behind : List ℕ) (spelling : Spelling) (word quote mark : Bool)
+    → begins_word first ≡ word → (first == single_quote || first == double_quote) ≡ quote
+    → (first == equals) ≡ mark
+    → spelling_of first behind ≡ Some spelling → Spelled first behind spelling
+unfolding spelling_of
+spelled-by first behind spelling true quote mark w q m e =
+    let same =
+    same_Some (record { shape = Word; len = 1 + word_len behind }) spelling (rw w at e) in
+    subst (Spelled first behind) same (spelled-word first behind)
+spelled-by first behind spelling false true mark w q m e =
+    spelled-string first behind (quote_end first 0 behind) spelling
+    (quote-low first q) refl (rw (w, q) at e)
+spelled-by first behind spelling false false true w q m e =
+    let same = same_Some (record { shape = Sym Eq; len = 1 }) spelling (rw (w, q, m) at e) in
+    let one : Spelled first behind (record { shape = Sym Eq; len = 1 }) =
+    record { some = omega arith; within = omega arith; quoted = tt } in
+    subst (Spelled first behind) same one
+spelled-by first behind spelling false false false w q m e =
+    let no : None ≡ Some spelling = rw (w, q, m) at e in absurd (cc)
+
+spelled : (first : ℕ) (behind : List ℕ) (spelling : Spelling)
+    → spelling_of first behind ≡ Some spelling → Spelled first behind spelling
+spelled first behind spelling e =
+    spelled-by first behind spelling (begins_word first)
+    (first == single_quote || first == double_quote) (first == equals) refl refl refl e
+
+-- Their order
+
+-- A bound farther in front is a bound too.
+earlier : (other from to : ℕ) (tokens : List Token) → other ≤ from → AreInOrder from to tokens
+    → AreInOrder other to tokens
+earlier other from to [] l o = omega arith
+earlier other from to (token ∷ tokens) l o = (omega (arith, o.0), o.1, o.2)
+
+order-at : (at byte : ℕ) (behind : List ℕ) (tokens : List Token)
+    → ((skipped : ℕ) (more : List Token) → skipped ≤ length behind
+    → tokens_behind skipped (at + 1) behind ≡ Ok more
+    → AreInOrder (at + 1 + skipped) (at + 1 + length behind) more)
+    → (tokens_behind zero (at + 1) behind ≡ Ok tokens) ⊎ Begun at byte behind tokens
+    → AreInOrder at (at + 1 + length behind) tokens
+order-at at byte behind tokens more (inl e) =
+    earlier at (at + 1 + 0) (at + 1 + length behind) tokens (omega arith)
+    (more zero tokens (omega arith) e)
+order-at at byte behind tokens more (inr b) =
+    let s = spelled byte behind b.spelling b.spelled in
+    let place : at + 1 + (b.spelling.len - 1) ≡ at + b.spelling.len = omega (arith, s.some) in
+    let rest = more (b.spelling.len - 1) b.rest (omega (arith, s.within)) b.lexed in
+    let to = at + 1 + length behind in
+    subst (AreInOrder at to) (sym b.all)
+    (omega arith, omega (arith, s.some), subst (λ from. AreInOrder from to b.rest) place rest)
+
+order : (skipped at : ℕ) (bytes : List ℕ) (tokens : List Token) → skipped ≤ length bytes
+    → tokens_behind skipped at bytes ≡ Ok tokens
+    → AreInOrder (at + skipped) (at + length bytes) tokens
+order skipped at [] tokens within e =
+    subst (AreInOrder (at + skipped) (at + 0)) (sym (none-left skipped at tokens e)) (omega arith)
+order (suc skipped) at (byte ∷ behind) tokens within e =
+    let from : at + 1 + skipped ≡ at + suc skipped = omega arith in
+    let to : at + 1 + length behind ≡ at + length (byte ∷ behind) = omega arith in
+    subst₂ (λ first last. AreInOrder first last tokens) from to
+    (order skipped (at + 1) behind tokens (omega arith) (sym (skip-one skipped at byte behind) ∙ e))
+order zero at (byte ∷ behind) tokens within e =
+    let from : at ≡ at + zero = omega arith in
+    let to : at + 1 + length behind ≡ at + length (byte ∷ behind) = omega arith in
+    subst₂ (λ first last. AreInOrder first last tokens) from to
+    (order-at at byte behind tokens (λ skipped more. order skipped (at + 1) behind more)
+    (begun at byte behind tokens e))
+
+-- Their texts
+
+-- between the quotes
+inside-quotes : (first len : ℕ) (behind : List ℕ) → len < length behind
+    → inside (first ∷ take (suc len) behind) ≡ take len behind
+inside-quotes first len behind within =
+    let count : length (first ∷ take (suc len) behind) - 2 ≡ len =
+    omega (arith, length-take (suc len) behind) in
+    ap (λ n. take n (take (suc len) behind)) count ∙ take-take len (suc len) behind (omega arith)
+
+text-string : (first : ℕ) (behind : List ℕ) (end : ℕ) → first < 128 → Closed first 0 behind end
+    → AreCutsUtf8 (first ∷ behind)
+    → HasUtf8Text (lexeme_of Str (first ∷ take end behind))
+unfolding lexeme_of
+text-string first behind end low c cuts =
+    let place : end ≡ suc c.len = omega (arith, c.place) in
+    let last : 0 + c.len ≡ c.len = omega arith in
+    let closing : get_or behind (0 + c.len) 0 ≡ first =
+    ap (λ n. get_or behind n 0) last ∙ c.closes in
+    let utf8 = cuts 0 c.len (omega (arith, c.within)) low (omega arith) in
+    subst (λ n. IsUtf8 (content first (inside (first ∷ take n behind)))) (sym place)
+    (subst (λ text. IsUtf8 (content first text)) (sym (inside-quotes first c.len behind c.within))
+    (content-utf8 first (take c.len behind) low utf8))
+
+text-of : (shape : Shape) (len first : ℕ) (behind : List ℕ) → IsQuoted shape len first behind
+    → AreCutsUtf8 (first ∷ behind)
+    → HasUtf8Text (lexeme_of shape (take len (first ∷ behind)))
+unfolding lexeme_of
+text-of Word len first behind q cuts = tt
+text-of (Sym symbol) len first behind q cuts = tt
+text-of Str len first behind q cuts =
+    let long : len ≡ suc q.1.0 = omega (arith, q.1.1.0) in
+    subst (λ n. HasUtf8Text (lexeme_of Str (take n (first ∷ behind)))) (sym long)
+    (text-string first behind q.1.0 q.0 q.1.1.1 cuts)
+
+texts-at : (at byte : ℕ) (behind : List ℕ) (tokens : List Token) → AreCutsUtf8 (byte ∷ behind)
+    → ((skipped : ℕ) (more : List Token) → tokens_behind skipped (at + 1) behind ≡ Ok more
+    → HaveUtf8Texts more)
+    → (tokens_behind zero (at + 1) behind ≡ Ok tokens) ⊎ Begun at byte behind tokens
+    → HaveUtf8Texts tokens
+texts-at at byte behind tokens cuts more (inl e) = more zero tokens e
+texts-at at byte behind tokens cuts more (inr b) =
+    let s = spelled byte behind b.spelling b.spelled in
+    subst HaveUtf8Texts (sym b.all) (
+      text-of b.spelling.shape b.spelling.len byte behind s.quoted cuts,
+      more (b.spelling.len - 1) b.rest b.lexed,
+    )
+
+texts : (skipped at : ℕ) (bytes : List ℕ) (tokens : List Token) → AreCutsUtf8 bytes
+    → tokens_behind skipped at bytes ≡ Ok tokens
+    → HaveUtf8Texts tokens
+texts skipped at [] tokens cuts e = subst HaveUtf8Texts (sym (none-left skipped at tokens e)) tt
+texts (suc skipped) at (byte ∷ behind) tokens cuts e =
+    texts skipped (at + 1) behind tokens (cuts-behind byte behind cuts)
+    (sym (skip-one skipped at byte behind) ∙ e)
+texts zero at (byte ∷ behind) tokens cuts e =
+    texts-at at byte behind tokens cuts
+    (λ skipped more. texts skipped (at + 1) behind more (cuts-behind byte behind cuts))
+    (begun at byte behind tokens e)
+
+-- The statement
+
+limited-Ok : (few : Bool) (all tokens : List Token) → nat_le (length all) token_limit ≡ few
+    → limited (Ok all) ≡ Ok tokens → all ≡ tokens
+limited-Ok true all tokens f e = let same : Ok all ≡ Ok tokens = rw f at e in cc
+limited-Ok false all tokens f e = let no : Err TooManyTokens ≡ Ok tokens = rw f at e in absurd (cc)
+
+all-of : (lexed : Result (List Token) LexFault) (tokens : List Token) → limited lexed ≡ Ok tokens
+    → lexed ≡ Ok tokens
+all-of (Ok all) tokens e = ap Ok (limited-Ok (nat_le (length all) token_limit) all tokens refl e)
+all-of (Err fault) tokens e = absurd (cc)
+
+statement-tokens : (script : List ℕ) (statement : Span) (tokens : List Token)
+    → tokens_of script statement ≡ Ok tokens
+    → tokens_in statement.start (slice_range script statement.start statement.end) ≡ Ok tokens
+unfolding tokens_of
+statement-tokens script statement tokens e =
+    let bytes = slice_range script statement.start statement.end in
+    all-of (tokens_in statement.start bytes) tokens e
+
+pub tokens-order : (script : List ℕ) (statement : Span) (tokens : List Token)
+    → statement.start ≤ statement.end → statement.end ≤ length script
+    → tokens_of script statement ≡ Ok tokens → AreInOrder statement.start statement.end tokens
+tokens-order script statement tokens begins ends e =
+    let bytes = slice_range script statement.start statement.end in
+    let from : statement.start + zero ≡ statement.start = omega arith in
+    let count = length-take (statement.end - statement.start) (drop statement.start script) in
+    let to : statement.start + length bytes ≡ statement.end =
+    omega (arith, count, length-drop statement.start script) in
+    subst₂ (λ first last. AreInOrder first last tokens) from to
+    (order zero statement.start bytes tokens (omega arith)
+    (statement-tokens script statement tokens e))
+
+pub tokens-texts : (script : List ℕ) (statement : Span) (tokens : List Token) → IsUtf8 script
+    → tokens_of script statement ≡ Ok tokens
+    → HaveUtf8Texts tokens
+tokens-texts script statement tokens utf8 e =
+    texts zero statement.start (slice_range script statement.start statement.end) tokens
+    (cuts-slice statement.start (statement.end - statement.start) script utf8)
+    (statement-tokens script statement tokens e)
