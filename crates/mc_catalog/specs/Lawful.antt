@@ -1,5 +1,5 @@
 -- What every catalog keeps to: the names, numbers, lengths and limits of its parts.
-use Rattle.std.specs.Prelude.{◌≡◌, ◌≢◌, ◌<◌, ◌≤◌, ⊤, ℕ, Bool, true, false, IsTrue, List, length, take, drop, Option, None, Some, All, AllPairs, IfSome, IsSomeAnd, slice_get}
+use Rattle.std.specs.Prelude.{◌≡◌, ◌≢◌, ◌<◌, ◌≤◌, ⊤, ℕ, Bool, true, false, IsTrue, List, length, take, drop, Option, None, Some, All, AllPairs, IfSome, IsSomeAnd, map, slice_get}
 use Rattle.mc_charset.specs.Names.{is_unicode_set}
 use Rattle.mc_charset.specs.declared.charset.Charset.{Charset}
 use Rattle.mc_charset.specs.declared.charset.Charset.TheVariants.{Latin1, Ascii, Utf8mb4}
@@ -68,22 +68,26 @@ abbrev pub IsLawfulIndex : List ColumnDecl → IndexDecl → Type 0
 IsLawfulIndex columns index = IsSomeAnd (slice_get columns index.column)
     (λ column. IsSomeAnd (width_of column.ty) (λ n. IfSome index.prefix (λ k. (1 ≤ k) × (k ≤ n))))
 
+-- The names of a list differ.
+abbrev pub AreApart : List (List ℕ) → Type 0
+AreApart names = AllPairs (λ a b. a ≢ b) names
+
 -- A table's parts are lawful and within the limits, and the names of its columns and indexes differ.
 pub record IsLawfulTable (collations : ℕ) (table : TableDecl) : Type 0 where
   pub few_columns : length table.columns ≤ 32
   pub few_indexes : length table.indexes ≤ 8
   pub types : All (λ column. IsLawfulType collations column.ty) table.columns
   pub indexes : All (IsLawfulIndex table.columns) table.indexes
-  pub column_names : AllPairs (λ a b. a.name ≢ b.name) table.columns
-  pub index_names : AllPairs (λ a b. a.name ≢ b.name) table.indexes
+  pub column_names : AreApart (map (λ column. column.name) table.columns)
+  pub index_names : AreApart (map (λ index. index.name) table.indexes)
 
 -- A catalog begins with the built-in collations, and its parts are lawful and within the limits.
 pub record IsLawful (catalog : Catalog) : Type 0 where
   pub built_in : take 9 catalog.collations ≡ built_in_collations
   pub few_collations : length catalog.collations ≤ 73
   pub declared : All IsLawfulCollation (drop 9 catalog.collations)
-  pub collation_names : AllPairs (λ a b. a.name ≢ b.name) catalog.collations
+  pub collation_names : AreApart (map (λ declared. declared.name) catalog.collations)
   pub few_tables : length catalog.tables ≤ 16
   pub tables : All (IsLawfulTable (length catalog.collations)) catalog.tables
-  pub table_names : AllPairs (λ a b. a.name ≢ b.name) catalog.tables
+  pub table_names : AreApart (map (λ table. table.name) catalog.tables)
   pub connection : catalog.connection.0 < length catalog.collations

@@ -6,6 +6,8 @@
 mod catalog;
 mod look_up;
 mod plain;
+#[cfg(test)]
+mod tests;
 
 pub use catalog::{Catalog, CollDecl, ColumnDecl, ColumnType, IndexDecl, Kind, TableDecl};
 pub use look_up::{default_of, find_collation};

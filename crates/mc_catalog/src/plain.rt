@@ -9,8 +9,10 @@ use std::alloc::Global;
 
 /// The catalog of the built-in collations, with no table. Its connection collation is
 /// `utf8mb4_bin`.
+#[tactic(auto, using(crate::proofs::PlainLawful::plain_lawful))]
 pub fn plain_catalog(alloc: Global) -> Result<Catalog, NoMemory>
     ensures plain { IfOk result (λ catalog. catalog ≡ plain) }
+    ensures lawful { IfOk result IsLawful }
 {
     Ok(Catalog {
         collations: built_in_collations(alloc)?,
