@@ -86,8 +86,8 @@ latin1_class Bytes code h k l = ((λ a. omega arith), (λ b. tt))
 latin1_below : (code : ℕ) → is_some (spell SetLatin1 code) ≡ true → code < 0x10000
 latin1_below code h =
     elim (cases_lt code 0x10000) [
-      inl l ↦ l
-    | inr l ↦ let n = latin1_bmp code l in absurd (false≢true (sym (ap is_some n) ∙ h))
+      | inl l ↦ l
+      | inr l ↦ let n = latin1_bmp code l in absurd (false≢true (sym (ap is_some n) ∙ h))
     ]
 
 pub latin1_classes : (class : Repertoire) (code : ℕ) → is_some (spell SetLatin1 code) ≡ true → 0x80 ≤ code → Has class code ↔ (1 ≤ rank class)
@@ -95,7 +95,7 @@ latin1_classes class code h k = latin1_class class code h k (latin1_below code h
 
 -- A loop over the characters
 
-rest_behind : (start : ℕ) (text : List ℕ) → take (length text - start) (drop start text) ≡ drop start text
+pub rest_behind : (start : ℕ) (text : List ℕ) → take (length text - start) (drop start text) ≡ drop start text
 rest_behind start text = ap (λ n. take n (drop start text)) (sym (length-drop start text)) ∙ take-length (drop start text)
 
 -- A class has the whole text exactly where it has a lower class and what is left.
@@ -106,12 +106,13 @@ pub HasPassed_step : (set : Charset) (text rest : List ℕ) (code len : ℕ) (cl
 HasPassed_step set text rest code len class step joined passed e s m other =
     let b = rest_behind len rest in
     let e' : chars set rest ≡ code ∷ chars set (take (length rest - len) (drop len rest)) = e ∙ ap (λ t. code ∷ chars set t) (sym b) in
-    let p = passed other in
-    ((λ h. let q = p.0 h in let r = subst (HasAll set other) e' q.1 in let u = q.0 in let v = (s other).0 r.0 in (omega arith, r.1)),
-      (λ h. let u = h.0 in p.1 (omega arith, subst (HasAll set other) (sym e') ((s other).1 (omega arith), h.1))))
+    let p = passed other in (
+      (λ h. let q = p.0 h in let r = subst (HasAll set other) e' q.1 in let u = q.0 in let v = (s other).0 r.0 in (omega arith, r.1)),
+      (λ h. let u = h.0 in p.1 (omega arith, subst (HasAll set other) (sym e') ((s other).1 (omega arith), h.1))),
+    )
 
 -- An answer that is no character leaves no characters.
-nothing : (set : Charset) (rest : List ℕ) (answer : CharAt) → HeadsChars set rest answer → (answer ≡ End) ⊎ (answer ≡ Bad) → chars set rest ≡ []
+pub nothing : (set : Charset) (rest : List ℕ) (answer : CharAt) → HeadsChars set rest answer → (answer ≡ End) ⊎ (answer ≡ Bad) → chars set rest ≡ []
 nothing set rest (Char code len) h (inl e) = absurd (cc)
 nothing set rest (Char code len) h (inr e) = absurd (cc)
 nothing set rest End h e = h.0
@@ -122,7 +123,7 @@ HasPassed_end set text rest class answer passed h e =
     let n = nothing set rest answer h e in
     record {
       has_all = (passed class).1 (omega arith, subst (HasAll set class) (sym n) tt);
-      least = λ other k. ((passed other).0 k).0
+      least = λ other k. ((passed other).0 k).0;
     }
 
 all_low : (set : Charset) (codes : List ℕ) → ((k : ℕ) → get_or codes k 0 < 0x80) → HasAll set Ascii codes
@@ -132,5 +133,5 @@ all_low set (code ∷ codes) h = (low_in set Ascii code (h 0), all_low set codes
 pub IsPlain_repertoire : (set : Charset) (text : List ℕ) → IsPlain set text → IsRepertoire set text Ascii
 IsPlain_repertoire set text p = record {
   has_all = subst (HasAll set Ascii) (sym p.its_chars) (all_low set text p.below);
-  least = λ other h. omega arith
+  least = λ other h. omega arith;
 }

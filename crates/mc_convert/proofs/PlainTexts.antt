@@ -1,11 +1,10 @@
 -- Texts below 80 in the sets that spell those characters as their bytes.
-use Rattle.std.proofs.Common.{◌≡◌, ℕ, ◌<◌, ◌⊎◌, Bool, true, false, List, [], ◌∷◌, ◌++◌, Option, Some, get_or, refl, sym, ap, ◌∙◌, subst, arith, inl, inr, suc}
+use Rattle.std.proofs.Common.{◌≡◌, ℕ, ◌<◌, ◌⊎◌, Bool, true, false, List, [], ◌∷◌, Some, get_or, refl, sym, subst, arith, inl, inr, suc}
 use Rattle.std.specs.Bool.{MatchBool, OnTrue}
 use Rattle.std.specs.Str.{IsAscii, IsNotAscii}
 use Rattle.std.proofs.lemmas.Bool.Decides.{nat_tests}
 use Rattle.mc_charset.specs.declared.charset.Charset.{Charset}
 use Rattle.mc_charset.specs.declared.charset.Charset.TheVariants.{Latin1, Ascii, Utf8mb3, Utf8mb4, Binary}
-use Rattle.mc_charset.specs.Tables.{rows}
 use Rattle.mc_charset.specs.Chars.{spell, spell_all, Spells, chars}
 use Rattle.mc_convert.specs.Plain.{IsPlain}
 

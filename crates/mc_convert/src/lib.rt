@@ -1,7 +1,11 @@
 //! Repertoires of texts and sets, and the conversion of texts between character sets.
 #![tactic(auto)]
 
+mod conversion;
+mod padding;
 mod plain;
 mod repertoire;
 
+pub use conversion::convert;
+pub use padding::reinterpret;
 pub use repertoire::{Repertoire, cap, repertoire_of};

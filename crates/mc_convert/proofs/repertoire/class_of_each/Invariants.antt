@@ -1,4 +1,4 @@
-use Rattle.std.proofs.Common.{ℕ, ◌↔◌, ◌≤◌, length}
+use Rattle.std.proofs.Common.{◌↔◌, ◌≤◌, length}
 use Rattle.mc_charset.specs.Chars.{chars}
 use Rattle.mc_convert.specs.Classes.{HasAll, rank}
 use Rattle.mc_convert.specs.declared.repertoire.Repertoire.{Repertoire}

@@ -1,0 +1,50 @@
+-- Conversion between character sets: MySQL 8.0 manual, 10.10 and 12.10.
+use Rattle.std.specs.Prelude.{◌≡◌, ℕ, ◌-◌, ◌%◌, ◌<◌, Bool, true, false, not, ◌&&◌, ◌||◌, List, [], ◌∷◌, ◌++◌, Option, Some, None, length, take, map, slice_index, nat_lt, MatchBool, if◌then◌else◌}
+use Rattle.std.specs.Option.{is_some}
+use Rattle.mc_charset.specs.declared.charset.Charset.{Charset}
+use Rattle.mc_charset.specs.declared.charset.Charset.TheVariants.{Ucs2, Utf16, Utf32, Binary}
+use Rattle.mc_charset.specs.Chars.{spell, chars, Spells, IsWellFormed}
+
+-- The set is binary.
+abbrev pub is_binary : Charset → Bool
+is_binary Binary = true
+is_binary set = false
+
+-- The set `to` has this character of a text in `from`. Of the bytes of binary it has those below 80, as ASCII.
+abbrev pub fits : Charset → Charset → ℕ → Bool
+fits from to code = (not (is_binary from) || nat_lt code 0x80) && is_some (spell to code)
+
+-- The character itself where `to` has it, else `?`.
+abbrev pub stand_in : Charset → Charset → ℕ → ℕ
+stand_in from to code = if fits from to code then code else 0x3F
+
+-- The converted text: to binary the bytes stay; to other sets each character is itself there or `?`.
+abbrev pub IsConverted : Charset → Charset → List ℕ → List ℕ → Type 0
+IsConverted from to text converted = MatchBool (is_binary to) (converted ≡ text) (Spells to (map (stand_in from to) (chars from text)) converted)
+
+-- No character is lost.
+abbrev pub IsLossless : Charset → Charset → List ℕ → Type 0
+IsLossless from to text = MatchBool (is_binary to) Unit ((k : ℕ) → k < length (chars from text) → fits from to (slice_index (chars from text) k) ≡ true)
+
+-- The first lost character stands at this place, counted in characters from 0.
+pub record IsFirstLost (from to : Charset) (text : List ℕ) (place : ℕ) : Type 0 where
+  pub not_to_binary : is_binary to ≡ false
+  pub within : place < length (chars from text)
+  pub lost : fits from to (slice_index (chars from text) place) ≡ false
+  pub earlier_fit : (k : ℕ) → k < place → fits from to (slice_index (chars from text) k) ≡ true
+
+-- How many bytes the shortest spellings of a set have.
+abbrev pub unit_len : Charset → ℕ
+unit_len Ucs2 = 2
+unit_len Utf16 = 2
+unit_len Utf32 = 4
+unit_len set = 1
+
+-- The bytes behind so many zero bytes that their number is a multiple of the set's unit.
+abbrev pub padded : Charset → List ℕ → List ℕ
+padded to bytes = take ((unit_len to - length bytes % unit_len to) % unit_len to) (0 ∷ 0 ∷ 0 ∷ []) ++ bytes
+
+-- The padded bytes, or nothing exactly where they are malformed.
+abbrev pub IsReinterpreted : Charset → List ℕ → Option (List ℕ) → Type 0
+IsReinterpreted to bytes None = IsWellFormed to (padded to bytes) → ⊥
+IsReinterpreted to bytes (Some text) = (text ≡ padded to bytes) × IsWellFormed to (padded to bytes)

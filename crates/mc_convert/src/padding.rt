@@ -1,0 +1,46 @@
+ghost use Rattle.mc_convert.specs.Conversion.{IsReinterpreted, unit_len};
+ghost use Rattle.std.specs.Prelude.{◌≡◌, ◌<◌, ◌-◌, ◌%◌, IfOk};
+
+use mc_base::{NoMemory, Text};
+use mc_charset::{Charset, is_well_formed};
+use std::alloc::Global;
+
+const ZEROS: [u8; 3] = [0, 0, 0];
+
+/// The bytes as a text of a set, behind zero bytes up to a multiple of 2 for ucs2 and utf16 and of 4 for utf32.
+/// `None` exactly where these are malformed. MySQL 8.0 manual, 12.10.
+pub fn reinterpret(alloc: Global, to: Charset, bytes: &[u8]) -> Result<Option<Text>, NoMemory>
+    ensures { IfOk result (λ answer. IsReinterpreted to bytes.now answer) }
+{
+    let mut text = Text::from_slice(alloc, &ZEROS[..missing(unit(to), bytes.len())])?;
+    text.extend_from_slice(bytes)?;
+    if is_well_formed(to, text.as_slice()) {
+        Ok(Some(text))
+    } else {
+        Ok(None)
+    }
+}
+
+/// How many bytes a length lacks to be a multiple of the unit.
+fn missing(unit: usize, len: usize) -> usize
+    requires positive { 0 < unit }
+    requires small { unit < 5 }
+    ensures is { result ≡ (unit - len % unit) % unit }
+    ensures below { result < unit }
+{
+    (unit - len % unit) % unit
+}
+
+/// How many bytes the shortest spellings of a set have.
+fn unit(set: Charset) -> usize
+    ensures is { result ≡ unit_len set }
+    ensures positive { 0 < result }
+    ensures small { result < 5 }
+{
+    match set {
+        Charset::Ucs2 | Charset::Utf16 => 2,
+        Charset::Utf32 => 4,
+        Charset::Latin1 | Charset::Ascii | Charset::Utf8mb3 | Charset::Utf8mb4 | Charset::Binary =>
+            1,
+    }
+}
