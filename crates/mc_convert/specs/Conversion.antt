@@ -22,16 +22,28 @@ stand_in from to code = if fits from to code then code else 0x3F
 abbrev pub IsConverted : Charset → Charset → List ℕ → List ℕ → Type 0
 IsConverted from to text converted = MatchBool (is_binary to) (converted ≡ text) (Spells to (map (stand_in from to) (chars from text)) converted)
 
+-- `to` has each character of the text.
+abbrev pub AllFit : Charset → Charset → List ℕ → Type 0
+AllFit from to text = (k : ℕ) → k < length (chars from text) → fits from to (slice_index (chars from text) k) ≡ true
+
 -- No character is lost.
 abbrev pub IsLossless : Charset → Charset → List ℕ → Type 0
-IsLossless from to text = MatchBool (is_binary to) Unit ((k : ℕ) → k < length (chars from text) → fits from to (slice_index (chars from text) k) ≡ true)
+IsLossless from to text = MatchBool (is_binary to) Unit (AllFit from to text)
 
--- The first lost character stands at this place, counted in characters from 0.
-pub record IsFirstLost (from to : Charset) (text : List ℕ) (place : ℕ) : Type 0 where
-  pub not_to_binary : is_binary to ≡ false
+-- Each character has in `to` the bytes that it has in the text.
+pub record KeepsBytes (from to : Charset) (text : List ℕ) : Type 0 where
+  pub spelled : Spells to (map (stand_in from to) (chars from text)) text
+  pub all_fit : AllFit from to text
+
+-- The first character that `to` lacks stands at this place, counted in characters from 0.
+pub record IsFirstUnfit (from to : Charset) (text : List ℕ) (place : ℕ) : Type 0 where
   pub within : place < length (chars from text)
-  pub lost : fits from to (slice_index (chars from text) place) ≡ false
+  pub unfit : fits from to (slice_index (chars from text) place) ≡ false
   pub earlier_fit : (k : ℕ) → k < place → fits from to (slice_index (chars from text) k) ≡ true
+
+-- The first lost character stands at this place. To binary none is lost.
+abbrev pub IsFirstLost : Charset → Charset → List ℕ → ℕ → Type 0
+IsFirstLost from to text place = (is_binary to ≡ false) × IsFirstUnfit from to text place
 
 -- How many bytes the shortest spellings of a set have.
 abbrev pub unit_len : Charset → ℕ

@@ -1,3 +1,4 @@
 pub mod Classes
 pub mod Plain
 pub mod Conversion
+pub mod Exact

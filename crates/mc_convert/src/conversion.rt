@@ -1,5 +1,5 @@
 ghost use Rattle.mc_charset.specs.Chars.{spell, chars, Spells, IsWellFormed};
-ghost use Rattle.mc_convert.specs.Conversion.{IsConverted, is_binary, stand_in};
+ghost use Rattle.mc_convert.specs.Conversion.{IsConverted, KeepsBytes, is_binary, stand_in};
 ghost use Rattle.std.specs.Bool.{OnTrue};
 ghost use Rattle.std.specs.Option.{option_map};
 ghost use Rattle.std.specs.Prelude.{◌≡◌, ◌++◌, IfOk, OnOk, OnErr, map, false};
@@ -27,10 +27,10 @@ pub fn convert(alloc: Global, from: Charset, to: Charset, text: &[u8]) -> Result
 }
 
 /// Whether the text is seen to have the same spelling in another set than binary.
-fn keeps_bytes(from: Charset, to: Charset, text: &[u8]) -> bool
+pub(crate) fn keeps_bytes(from: Charset, to: Charset, text: &[u8]) -> bool
     requires well_formed { IsWellFormed from text.now }
     requires not_to_binary { is_binary to ≡ false }
-    ensures { OnTrue result (Spells to (map (stand_in from to) (chars from text.now)) text.now) }
+    ensures { OnTrue result (KeepsBytes from to text.now) }
 {
     if from == to {
         chars_law();

@@ -2,10 +2,12 @@
 #![tactic(auto)]
 
 mod conversion;
+mod exact;
 mod padding;
 mod plain;
 mod repertoire;
 
 pub use conversion::convert;
+pub use exact::{ConvertFault, convert_exact};
 pub use padding::reinterpret;
 pub use repertoire::{Repertoire, cap, repertoire_of};
