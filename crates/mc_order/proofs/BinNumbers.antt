@@ -1,10 +1,15 @@
 -- Characters and their numbers in the binary collations.
-use Rattle.std.proofs.Common.{◌≡◌, ◌↔◌, ℕ, ◌+◌, Bool, true, false, IsTrue, List, [], ◌∷◌, ◌++◌, Some, map, append-nil, refl, sym, ap, ◌∙◌, arith}
+use Rattle.std.proofs.Common.{◌≡◌, ◌↔◌, ℕ, ◌+◌, Bool, true, false, IsTrue, List, [], ◌∷◌, ◌++◌, Some, map, append-nil, refl, sym, ap, ◌∙◌, arith, ◌-◌, take, take_all, drop, length, length-drop}
 use Rattle.mc_charset.specs.declared.charset.Charset.{Charset}
-use Rattle.mc_charset.specs.Chars.{spell}
+use Rattle.std.proofs.lemmas.List.{map-append}
+use Rattle.mc_charset.specs.Chars.{spell, chars}
 use Rattle.mc_order.specs.Meaning.{IsCharOf}
 use Rattle.mc_order.specs.Bin.{is_one_byte, first_byte, bin_number}
 use Rattle.mc_order.specs.Spelling.{one_byte}
+use Rattle.mc_order.specs.declared.pad.Pad.{Pad}
+use Rattle.mc_order.specs.Boundary.{SharesFront}
+use Rattle.mc_order.specs.Order.{list_order}
+use Rattle.mc_order.proofs.Steps.{list_order-front}
 
 -- No spelling of the set is a proper prefix of another one.
 abbrev pub HasNoPrefix : Charset → Type 0
@@ -40,3 +45,29 @@ same_char_is set c d r law ic id h = (
   λ e. h.1 (same_number set (is_one_byte set) c d refl law ic id
       (let w : bin_number set c + 1 ≡ bin_number set d + 1 = cc in omega arith)),
 )
+
+take_rest : (xs : List ℕ) (n : ℕ) → take (length xs - n) (drop n xs) ≡ drop n xs
+take_rest xs n = take_all (length xs - n) (drop n xs) (omega (arith, length-drop n xs))
+
+-- What both texts begin with decides nothing.
+pub behind_shared : (set : Charset) (pad : Pad) (space : ℕ) (f : ℕ → ℕ) (a b : List ℕ) (n : ℕ) →
+    SharesFront set a b n →
+    list_order pad space (map f (chars set (take (length a - n) (drop n a)))) (map f (chars set
+    (take (length b - n) (drop n b))))
+    ≡ list_order pad space (map f (chars set a)) (map f (chars set b))
+behind_shared set pad space f a b n h =
+    rw (take_rest a n, take_rest b n)
+    (sym (rw (
+      h.1,
+      h.2,
+      map-append f h.0 (chars set (drop n a)),
+      map-append f h.0 (chars set
+          (drop n b)),
+    )
+    (list_order-front pad space (map f h.0) (map f (chars set (drop n a))) (map f (chars set
+    (drop n b))))))
+
+pub weights_of_same : (s t : Charset) (x y : List ℕ) → s ≡ t → x ≡ y →
+    map (λ code. bin_number s code + 1) (chars s x) ≡ map (λ code. bin_number t code + 1)
+    (chars t y)
+weights_of_same s t x y e d = rw (e, d) refl

@@ -6,3 +6,4 @@ pub mod Characters
 pub mod Bin
 pub mod Spelling
 pub mod BinLaws
+pub mod Boundary

@@ -89,3 +89,32 @@ pub one_byte : (set : Charset) (code : ℕ) (front : List ℕ) → is_one_byte s
     spell set code ≡ Some front → IsByte front
 unfolding spell
 one_byte set code front one s = byte_spelling (rows set) code front (bytes_alone set one) s
+
+-- All rows pass a test of their ranges.
+abbrev pub all_rows : (List Range → Bool) → List Row → Bool
+all_rows test [] = true
+all_rows test (row ∷ rows) = test row.bytes && all_rows test rows
+
+-- A spelling is a byte sequence of a row's ranges.
+pub row_of : (test : List Range → Bool) (rows : List Row) (code : ℕ) (front : List ℕ) →
+    all_rows test rows ≡ true → spelling_in rows code ≡ Some front →
+    (rs : List Range) × (n : ℕ) × (n < count rs) × (front ≡ sequence rs n) × (test rs ≡ true)
+row_of test [] code front e s = absurd cc
+row_of test (row ∷ rows) code front e s =
+    either (has_code row code)
+    ((rs : List Range) × (n : ℕ) × (n < count rs) × (front ≡ sequence rs n) × (test rs ≡ true))
+    (λ has. (
+      row.bytes,
+      code - row.first,
+      grind (arith, nat_tests),
+      sym (some_same
+          (rw has at s)),
+      grind (arith, nat_tests),
+    ))
+    (λ has. row_of test rows code front (grind (arith, nat_tests)) (rw has at s))
+
+pub spelling_row : (set : Charset) (test : List Range → Bool) (code : ℕ) (front : List ℕ) →
+    all_rows test (rows set) ≡ true → spell set code ≡ Some front →
+    (rs : List Range) × (n : ℕ) × (n < count rs) × (front ≡ sequence rs n) × (test rs ≡ true)
+unfolding spell
+spelling_row set test code front e s = row_of test (rows set) code front e s

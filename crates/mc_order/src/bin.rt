@@ -4,8 +4,8 @@ ghost use Rattle.mc_order.specs.BinLaws.{bin_lawful};
 ghost use Rattle.mc_order.specs.Laws.{IsLawful};
 ghost use Rattle.std.specs.Prelude.{◌≡◌, ◌+◌, ◌≤◌, ◌∷◌, [], map, slice_index_or};
 
-use crate::bin_weights::{BinWeights, put_bin_list};
-use crate::{Collation, Pad, compare_streams};
+use crate::bin_weights::{compare_bin, put_bin_list};
+use crate::{Collation, Pad};
 use mc_base::{NoMemory, Weights};
 use mc_charset::{Charset, CollId, chars_law};
 use std::cmp::Ordering;
@@ -85,9 +85,7 @@ impl Collation for BinCollation {
     }
 
     fn compare(&self, a: &[u8], b: &[u8]) -> Ordering {
-        let mut left = BinWeights::new(self.charset, a);
-        let mut right = BinWeights::new(self.charset, b);
-        compare_streams(&mut left, &mut right, self.pad, self.space())
+        compare_bin(self.charset, a, b, self.pad, self.space())
     }
 
     fn same_char(&self, c: u32, d: u32) -> bool {

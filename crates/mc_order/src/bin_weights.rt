@@ -1,11 +1,14 @@
-ghost use Rattle.mc_charset.specs.Chars.{chars, spell};
+ghost use Rattle.mc_charset.specs.Chars.{chars, spell, IsWellFormed};
 ghost use Rattle.mc_order.specs.Bin.{bin_number};
 ghost use Rattle.mc_order.specs.Meaning.{first_chars};
+ghost use Rattle.mc_order.specs.Order.{list_order};
 ghost use Rattle.std.specs.Prelude.{◌≡◌, ◌+◌, ◌++◌, ◌<◌, ◌≤◌, Some, length, map, OnOk, OnErr};
 
-use crate::{WeightStream, put_first_weights, put_weights};
+use crate::shared::shared_start;
+use crate::{Pad, WeightStream, compare_streams, put_first_weights, put_weights};
 use mc_base::{NoMemory, Weights};
 use mc_charset::{CharAt, Charset, next_char};
+use std::cmp::Ordering;
 
 /// The weights of a text under a binary collation of its set.
 #[derive(Drop)]
@@ -37,6 +40,21 @@ impl<'a> WeightStream for BinWeights<'a> {
             CharAt::End | CharAt::Bad => None,
         }
     }
+}
+
+/// The order of two texts by the weights of their characters. The bytes that they have in common in
+/// front are passed over, back to where a character begins; behind them characters decide, since
+/// the byte order of utf16 isn't that of code points.
+pub(crate) fn compare_bin(charset: Charset, a: &[u8], b: &[u8], pad: Pad, space: u32) -> Ordering
+    requires first { IsWellFormed charset a.now }
+    requires second { IsWellFormed charset b.now }
+    ensures { result
+        ≡ list_order pad space (map (λ code. bin_number charset code + 1) (chars charset a.now)) (map (λ code. bin_number charset code + 1) (chars charset b.now)) }
+{
+    let start = shared_start(charset, a, b);
+    let mut left = BinWeights::new(charset, &a[start..]);
+    let mut right = BinWeights::new(charset, &b[start..]);
+    compare_streams(&mut left, &mut right, pad, space)
 }
 
 /// The number that a character compares by: its byte in a set of one-byte spellings, else its code

@@ -7,6 +7,7 @@ mod book;
 mod collation;
 mod lists;
 mod pad;
+mod shared;
 mod stream;
 
 pub use bin::BinCollation;
