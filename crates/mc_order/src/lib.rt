@@ -9,6 +9,8 @@ mod lists;
 mod pad;
 mod shared;
 mod stream;
+#[cfg(test)]
+mod tests;
 
 pub use bin::BinCollation;
 pub use book::Book;
