@@ -5,3 +5,6 @@ pub mod Lexing
 pub mod TokenLawsText
 pub mod TokenLawsCuts
 pub mod TokenLaws
+pub mod Utf8
+pub mod Texts
+pub mod Strings

@@ -5,3 +5,4 @@ pub mod Spellings
 pub mod Lexemes
 pub mod Tokens
 pub mod TokenLaws
+pub mod WellFormed
