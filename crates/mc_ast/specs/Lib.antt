@@ -3,3 +3,8 @@ pub mod Values
 pub mod Grouping
 pub mod Meaning
 pub mod Trees
+pub mod Written
+pub mod Operators
+pub mod Literals
+pub mod Calls
+pub mod Clauses

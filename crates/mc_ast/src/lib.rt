@@ -3,11 +3,13 @@
 //! of `specs/`; then [`trees_are_unique`].
 #![tactic(auto)]
 
+mod examples;
 mod expr;
 mod operators;
 mod statement;
 mod trees;
 
+pub use examples::{calls, clauses, literals_and_names, operators_group};
 pub use expr::{Expr, Form};
 pub use operators::{ArithOp, CmpOp, Cut, TrimSide};
 pub use statement::{Item, OrderItem, Statement};

@@ -1,3 +1,4 @@
 pub mod Forests
 pub mod Ahead
 pub mod SameReadings
+pub mod Search
