@@ -5,7 +5,6 @@ use Rattle.mc_token.specs.declared.lexeme.Token.{Token}
 use Rattle.mc_grammar.specs.Grammar.{rule}
 use Rattle.mc_grammar.proofs.Search.{Shows, shown, whole_forest, search_readings, may_read, none}
 use Rattle.mc_sql.specs.Rules.{statement}
-use Rattle.mc_sql.specs.Classes.{is_reserved, is_intro, is_called}
 use Rattle.mc_sql.specs.Statements.{statements}
 use Rattle.mc_ast.specs.declared.statement.Statement.{Statement}
 use Rattle.mc_ast.specs.Values.{a_statement}

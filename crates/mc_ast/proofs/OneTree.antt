@@ -1,5 +1,5 @@
 -- A reading means one statement at most.
-use Rattle.std.proofs.Common.{◌≡◌, List, [], ◌∷◌, sym, ap, ◌∙◌}
+use Rattle.std.proofs.Common.{◌≡◌, List, [], ◌∷◌, ap, ◌∙◌}
 use Rattle.mc_token.specs.declared.lexeme.Token.{Token}
 use Rattle.mc_grammar.specs.Reading.{Forest, IsReading}
 use Rattle.mc_sql.specs.Rules.{Alternative, statement}

@@ -1,11 +1,11 @@
 -- Examples of calls: tokens and their tree.
-use Rattle.std.specs.Prelude.{pos, List, [], ◌∷◌, true, false, Some, None, codes}
+use Rattle.std.specs.Prelude.{pos, [], ◌∷◌, Some, None, codes}
 use Rattle.mc_token.specs.declared.lexeme.Lexeme.TheVariants.{Sym}
 use Rattle.mc_token.specs.declared.lexeme.Symbol.TheVariants.{Comma, LeftParen, RightParen, Star}
 use Rattle.mc_ast.specs.declared.expr.Form.TheVariants.{Str, Convert, CastChar, CastBinary, CountAll, CountDistinct, Trim, SubstringFrom, WeightString, Call}
 use Rattle.mc_ast.specs.declared.operators.Cut.TheVariants.{Chars}
 use Rattle.mc_ast.specs.declared.operators.TrimSide.TheVariants.{Both, Leading}
-use Rattle.mc_ast.specs.Written.{word, string, number, at, column, whole_number, item_at, by_order, plain, Reads, ReadsExpr, HasNone}
+use Rattle.mc_ast.specs.Written.{word, string, number, at, column, whole_number, ReadsExpr}
 
 -- MOD(a, b)
 abbrev pub ModIsACall : Type 0

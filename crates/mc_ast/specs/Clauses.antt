@@ -1,9 +1,9 @@
 -- Examples of clauses: tokens and their tree.
-use Rattle.std.specs.Prelude.{pos, List, [], ◌∷◌, true, false, Some, None, codes}
+use Rattle.std.specs.Prelude.{[], ◌∷◌, true, false, Some, None, codes}
 use Rattle.mc_token.specs.declared.lexeme.Lexeme.TheVariants.{Sym}
 use Rattle.mc_token.specs.declared.lexeme.Symbol.TheVariants.{Comma, LeftParen, RightParen, Star}
 use Rattle.mc_ast.specs.declared.expr.Form.TheVariants.{Like}
-use Rattle.mc_ast.specs.Written.{word, string, number, at, column, whole_number, item_at, by_order, plain, Reads, ReadsExpr, HasNone}
+use Rattle.mc_ast.specs.Written.{word, string, number, at, column, item_at, by_order, plain, Reads, HasNone}
 
 -- SELECT *, a FROM t
 abbrev pub StarAndAnItem : Type 0

@@ -1,9 +1,8 @@
 -- The grouping of operands: MySQL 8.0 manual, 12.4.1.
-use Rattle.std.specs.Prelude.{ℕ, List, [], ◌∷◌}
+use Rattle.std.specs.Prelude.{List, [], ◌∷◌}
 use Rattle.mc_base.specs.declared.span.Span.{Span}
 use Rattle.mc_ast.specs.declared.expr.Form.{Form}
 use Rattle.mc_ast.specs.declared.expr.Form.TheVariants.{Xor, Arith, Collate}
-use Rattle.mc_ast.specs.declared.operators.ArithOp.{ArithOp}
 use Rattle.mc_ast.specs.Spans.{from_to}
 use Rattle.mc_ast.specs.Values.{Operand, Operation, Collation}
 

@@ -1,9 +1,9 @@
 -- Examples of literals and names: tokens and their tree.
-use Rattle.std.specs.Prelude.{pos, List, [], ◌∷◌, true, false, Some, None, codes}
+use Rattle.std.specs.Prelude.{[], ◌∷◌, codes}
 use Rattle.mc_token.specs.declared.lexeme.Lexeme.TheVariants.{National as NationalToken, Hex, Sym}
 use Rattle.mc_token.specs.declared.lexeme.Symbol.TheVariants.{Dot}
 use Rattle.mc_ast.specs.declared.expr.Form.TheVariants.{True, Str, National, IntroStr, IntroHex, Qualified}
-use Rattle.mc_ast.specs.Written.{word, string, number, at, column, whole_number, item_at, by_order, plain, Reads, ReadsExpr, HasNone}
+use Rattle.mc_ast.specs.Written.{word, string, at, column, ReadsExpr}
 
 -- 'a' 'b'
 abbrev pub StringsSideBySide : Type 0

@@ -16,7 +16,7 @@ use Rattle.mc_ast.specs.declared.statement.Item.{Item}
 use Rattle.mc_ast.specs.declared.statement.OrderItem.{OrderItem}
 use Rattle.mc_ast.specs.declared.statement.Statement.{Statement}
 use Rattle.mc_ast.specs.Grouping.{whole, grouped, grouped_xor, under}
-use Rattle.mc_ast.specs.Values.{Operand, Operation, Collation, Source, exprs, lexeme_text, lexeme_number, Value, ill, a_token, operand, operands, maybe_operand, operations, collations, collation, text, maybe_text, flag, comparison, trim_side, cut, item, items, order_item, order_items, source, the_count, the_offset, no_number, limit, a_statement}
+use Rattle.mc_ast.specs.Values.{Operand, Operation, Source, exprs, lexeme_text, lexeme_number, Value, ill, a_token, operand, operands, maybe_operand, operations, collations, collation, text, maybe_text, flag, comparison, trim_side, cut, item, items, order_item, order_items, source, the_count, the_offset, no_number, limit, a_statement}
 
 -- An operand of this form whose tokens are all its own.
 abbrev an : Span → Form → Value

@@ -1,8 +1,8 @@
 -- What the parts of a statement mean, before they are one tree.
-use Rattle.std.specs.Prelude.{ℕ, ℤ, pos, List, [], ◌∷◌, Bool, Option, Some, None, map}
+use Rattle.std.specs.Prelude.{ℕ, ℤ, pos, List, [], Bool, Option, map}
 use Rattle.mc_base.specs.declared.span.Span.{Span}
 use Rattle.mc_token.specs.declared.lexeme.Lexeme.{Lexeme}
-use Rattle.mc_token.specs.declared.lexeme.Lexeme.TheVariants.{Word, Name, Int, Str, National, Hex, Sym}
+use Rattle.mc_token.specs.declared.lexeme.Lexeme.TheVariants.{Word, Name, Int, Str, National, Hex}
 use Rattle.mc_token.specs.declared.lexeme.Token.{Token}
 use Rattle.mc_ast.specs.declared.expr.Expr.{Expr}
 use Rattle.mc_ast.specs.declared.operators.ArithOp.{ArithOp}

@@ -1,5 +1,5 @@
 -- Tokens and trees for examples: token `n` is byte `n` of the script.
-use Rattle.std.specs.Prelude.{◌≡◌, ℕ, ◌+◌, ℤ, pos, length, List, [], ◌∷◌, Bool, false, Option, Some, None, codes}
+use Rattle.std.specs.Prelude.{ℕ, ◌+◌, pos, length, List, [], ◌∷◌, Bool, false, Option, None, codes}
 use Prim.Native.String.{String}
 use Rattle.mc_base.specs.declared.span.Span.{Span}
 use Rattle.mc_token.specs.declared.lexeme.Lexeme.{Lexeme}

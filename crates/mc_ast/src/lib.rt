@@ -1,6 +1,7 @@
 //! The trees of the statements: what a reading of the tokens means. In reading order: [`Statement`]
 //! and [`Expr`]; then `Meaning`, which says what each alternative of the grammar means, and `Trees`
-//! of `specs/`; then [`trees_are_unique`].
+//! of `specs/`; then [`trees_are_unique`] and
+//! [`readings_have_trees`].
 #![tactic(auto)]
 
 mod examples;
@@ -13,4 +14,4 @@ pub use examples::{calls, clauses, literals_and_names, operators_group};
 pub use expr::{Expr, Form};
 pub use operators::{ArithOp, CmpOp, Cut, TrimSide};
 pub use statement::{Item, OrderItem, Statement};
-pub use trees::trees_are_unique;
+pub use trees::{readings_have_trees, trees_are_unique};
