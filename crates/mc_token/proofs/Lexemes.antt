@@ -11,7 +11,7 @@ unfolding content
 content-done quote bytes at h = at_drop_all (content quote) bytes at h
 
 -- at the front of a list
-pub content-front : (quote byte : ℕ) (behind : List ℕ) → content quote (byte ∷ behind)
+content-front : (quote byte : ℕ) (behind : List ℕ) → content quote (byte ∷ behind)
     ≡ cond (ltb 0 (length behind) && (byte == backslash || (byte == quote && get_or behind 0 0 == quote))) (pair byte (get_or behind 0 0) ++ content quote (drop 1 behind)) (byte ∷ content quote behind)
 unfolding content
 content-front quote byte [] = refl

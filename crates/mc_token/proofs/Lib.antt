@@ -5,6 +5,3 @@ pub mod Lexing
 pub mod TokenLawsText
 pub mod TokenLawsCuts
 pub mod TokenLaws
-pub mod Utf8
-pub mod Texts
-pub mod Strings

@@ -5,4 +5,3 @@ pub mod Spellings
 pub mod Lexemes
 pub mod Tokens
 pub mod TokenLaws
-pub mod WellFormed

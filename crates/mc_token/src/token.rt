@@ -29,9 +29,6 @@ ghost use Rattle.mc_token.specs.Tokens.{
   IsCause,
   tokens_of,
 };
-ghost use Rattle.mc_token.specs.WellFormed.{AreUtf8};
-ghost use Rattle.mc_charset.specs.Chars.{IsWellFormed};
-ghost use Rattle.mc_charset.specs.declared.charset.Charset.TheVariants as charset;
 
 use crate::element::is_space;
 use crate::reading::lexeme_of;
@@ -46,15 +43,13 @@ const TOKEN_LIMIT: usize = 2048;
 /// The tokens of a statement that `next_statement` gave: between them stand spaces alone, and each
 /// is the longest one at its place. NoToken is at the first byte that is no space and where no
 /// token begins, or one that isn't closed. TooManyTokens comes where there are more than 2,048
-/// and no NoToken. Where the script is UTF-8, the text of each string is. MySQL 8.0 manual, 9.1
-/// and 9.2.
+/// and no NoToken. MySQL 8.0 manual, 9.1 and 9.2.
 #[tactic(auto, unfolding(crate::specs::Tokens::tokens_of))]
 pub fn tokens(alloc: Global, script: &[u8], statement: Span) -> Result<List<Token>, LexFault>
     requires in_order { statement.start ≤ statement.end }
     requires within { statement.end ≤ length script.now }
     ensures ok { IfOk result (λ tokens. tokens_of script.now statement ≡ Ok tokens) }
     ensures err { IfErr result (λ fault. IsCause fault (tokens_of script.now statement)) }
-    ensures utf8 { IsWellFormed charset.Utf8mb4 script.now → IfOk result (λ tokens. AreUtf8 tokens) }
 {
     let bytes = &script[statement.start as usize..statement.end as usize];
     tokens_in(alloc, bytes, statement.start)
