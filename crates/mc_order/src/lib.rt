@@ -1,4 +1,13 @@
 //! The order of texts under a collation, and the laws that every collation keeps.
+//!
+//! A text has lists of weights, and two texts compare as their flat lists do: lexicographically, or
+//! as if prolonged by the space's weight without end (MySQL 8.0 manual, 10.8.5). `specs/Order.antt`
+//! states that order, `specs/Meaning.antt` what a collation means, `specs/Laws.antt` what each one
+//! keeps, and `specs/Consequences.antt` what code that is generic in it may rest on.
+//!
+//! Read `pad`, `lists`, `collation`, `book`; then `stream`, by which each kind compares without a
+//! list; then `bin`, `bin_weights` and `shared`, the nine built-in collations:
+//! `BinCollation::new(CollId(4)).compare(a, b)` is the order of two utf8mb4 texts by code points.
 #![tactic(auto)]
 
 mod bin;
