@@ -11,7 +11,7 @@ use Rattle.mc_token.specs.declared.lexeme.LexFault.TheVariants.{NoToken, TooMany
 use Rattle.mc_token.specs.declared.spelling.Spelling.{Spelling}
 
 -- skipping bytes is dropping them
-tokens_behind-drop : (skipped place : ℕ) (bytes : List ℕ) → tokens_behind skipped place bytes ≡ tokens_in (place + skipped) (drop skipped bytes)
+pub tokens_behind-drop : (skipped place : ℕ) (bytes : List ℕ) → tokens_behind skipped place bytes ≡ tokens_in (place + skipped) (drop skipped bytes)
 unfolding tokens_behind
 tokens_behind-drop zero place bytes = ap (λ p. tokens_behind zero p bytes) (omega arith)
 tokens_behind-drop (suc skipped) place [] = refl

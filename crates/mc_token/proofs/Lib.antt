@@ -5,3 +5,5 @@ pub mod Lexing
 pub mod TokenLawsText
 pub mod TokenLawsCuts
 pub mod TokenLaws
+pub mod Closing
+pub mod Cover

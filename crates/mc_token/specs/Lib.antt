@@ -4,4 +4,5 @@ pub mod Statements
 pub mod Spellings
 pub mod Lexemes
 pub mod Tokens
+pub mod Cover
 pub mod TokenLaws

@@ -1,13 +1,17 @@
-ghost use Rattle.std.specs.Prelude.{◌≡◌, ℕ, ◌≤◌, List, Ok, length};
+ghost use Rattle.std.specs.Prelude.{◌≡◌, ◌↔◌, ℕ, ◌≤◌, List, Ok, length};
 ghost use Rattle.std.specs.Str.{IsUtf8};
 ghost use Rattle.mc_base.specs.declared.span.Span.{Span};
-ghost use Rattle.mc_token.specs.Tokens.{tokens_of};
+ghost use Rattle.mc_token.specs.Tokens.{tokens_in, tokens_of};
+ghost use Rattle.mc_token.specs.Cover.{Cover};
 ghost use Rattle.mc_token.specs.TokenLaws.{AreInOrder, HaveUtf8Texts};
 ghost use Rattle.mc_token.specs.declared.lexeme.Token.{Token};
 
-/// The laws of the tokens of a statement: they stand inside it, one behind the other; and if the
+/// The laws of tokens: those of some bytes are the one list of spans that covers all of them but the
+/// spaces, each token the longest one at its place; those of a statement stand inside it, one behind the other; and if the
 /// script is UTF-8, so is the text of each string, its escapes taken away.
 pub fn token_laws()
+    ensures cover { (place : ℕ) (bytes : List ℕ) (tokens : List Token)
+        → tokens_in place bytes ≡ Ok tokens ↔ Cover place bytes tokens }
     ensures in_order { (script : List ℕ) (statement : Span) (tokens : List Token)
         → statement.start ≤ statement.end → statement.end ≤ length script
         → tokens_of script statement ≡ Ok tokens → AreInOrder statement.start statement.end tokens }

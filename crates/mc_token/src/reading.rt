@@ -56,7 +56,7 @@ fn begins_pair(quote: u8, inside: &[u8], at: usize) -> bool
     requires { at < length inside.now }
     ensures value { result ≡ (nat_lt (at + 1) (length inside.now)
         && (slice_index inside.now at == backslash
-            || (slice_index inside.now at == quote && slice_index inside.now (at + 1) == quote))) }
+        || (slice_index inside.now at == quote && slice_index inside.now (at + 1) == quote))) }
     ensures within { IsTrue result → at + 1 < length inside.now }
 {
     at + 1 < inside.len()

@@ -1,4 +1,5 @@
 use Rattle.mc_token.proofs.TokenLaws.{tokens-order, tokens-texts}
+use Rattle.mc_token.proofs.Cover.{tokens_cover, cover_is_tokens}
 use Rattle.mc_token.proofs.laws.token_laws.Goals as goal
 
 pub returns-clause-in_order : goal.returns-clause-in_order
@@ -6,3 +7,7 @@ returns-clause-in_order c = tokens-order
 
 pub returns-clause-texts : goal.returns-clause-texts
 returns-clause-texts c = tokens-texts
+
+pub returns-clause-cover : goal.returns-clause-cover
+returns-clause-cover c =
+    λ place bytes tokens. (tokens_cover place bytes tokens, cover_is_tokens place bytes tokens)
