@@ -4,12 +4,14 @@
 //! [`readings_have_trees`].
 #![tactic(auto)]
 
+mod alike;
 mod examples;
 mod expr;
 mod operators;
 mod statement;
 mod trees;
 
+pub use alike::likeness_ignores_spans;
 pub use examples::{calls, clauses, literals_and_names, operators_group};
 pub use expr::{Expr, Form};
 pub use operators::{ArithOp, CmpOp, Cut, TrimSide};
