@@ -76,8 +76,10 @@ is_behind t next (Some said) = is_part t next said
 -- Behind each of the symbols stands only what may follow it.
 abbrev pub is_followed : {K R : Type 0} → Tables K R → List (Symbol K R) → Ahead K → Bool
 is_followed t [] after = true
-is_followed t (one k ∷ symbols) after = is_behind t (starts t symbols after) (t.behind k) && is_followed t symbols after
-is_followed t (rule r ∷ symbols) after = is_part t (starts t symbols after) (t.follows r) && is_followed t symbols after
+is_followed t (one k ∷ symbols) after =
+    is_behind t (starts t symbols after) (t.behind k) && is_followed t symbols after
+is_followed t (rule r ∷ symbols) after =
+    is_part t (starts t symbols after) (t.follows r) && is_followed t symbols after
 
 module _ {K R A T : Type 0} (g : Grammar K R A T) where
   -- The tokens begin with one of the class, or are at their end where None asks for it.
@@ -112,37 +114,48 @@ module _ {K R A T : Type 0} (g : Grammar K R A T) (t : Tables K R) where
 
   -- One step of the comparison below: tokens of two classes are taken for the same token, a rule
   -- that both lists begin with for the same tree, and another rule is replaced by its alternatives.
-  abbrev pub step : (List (Symbol K R) → Ahead K → List (Symbol K R) → Ahead K → Bool) → List (Symbol K R) → Ahead K → List (Symbol K R) → Ahead K → Bool
+  abbrev pub step : (List (Symbol K R) → Ahead K → List (Symbol K R) → Ahead K → Bool)
+      → List (Symbol K R) → Ahead K → List (Symbol K R) → Ahead K → Bool
   step apart (one k ∷ ss) after (one l ∷ zz) after' = apart ss after zz after'
   step apart (rule r ∷ ss) after (rule q ∷ zz) after' =
-      elim (t.are_same r q && (is_followed t (rule r ∷ ss) after && is_followed t (rule q ∷ zz) after'))
-      [ true ↦ apart ss after zz after' | false ↦ every (λ a. apart (g.symbols a ++ ss) after (rule q ∷ zz) after') (g.alternatives r) ]
-  step apart (rule r ∷ ss) after zz after' = every (λ a. apart (g.symbols a ++ ss) after zz after') (g.alternatives r)
-  step apart ss after (rule q ∷ zz) after' = every (λ b. apart ss after (g.symbols b ++ zz) after') (g.alternatives q)
+      elim (t.are_same r q && (is_followed t (rule r ∷ ss) after && is_followed t
+      (rule q ∷ zz) after')) [
+        | true ↦ apart ss after zz after'
+        | false ↦ every
+            (λ a. apart (g.symbols a ++ ss) after (rule q ∷ zz) after') (g.alternatives r)
+      ]
+  step apart (rule r ∷ ss) after zz after' =
+      every (λ a. apart (g.symbols a ++ ss) after zz after') (g.alternatives r)
+  step apart ss after (rule q ∷ zz) after' =
+      every (λ b. apart ss after (g.symbols b ++ zz) after') (g.alternatives q)
   step apart ss after zz after' = false
 
   -- The two lists of symbols, each with what may stand after it, read no tokens in common.
   abbrev pub are_distinct : ℕ → List (Symbol K R) → Ahead K → List (Symbol K R) → Ahead K → Bool
   are_distinct zero ss after zz after' = false
   are_distinct (suc depth) ss after zz after' =
-      elim (exclude t (starts t ss after) (starts t zz after') && (is_followed t ss after && is_followed t zz after'))
+      elim (exclude t (starts t ss after) (starts t zz after') &&
+      (is_followed t ss after && is_followed t zz after'))
       [ true ↦ true | false ↦ step (are_distinct depth) ss after zz after' ]
 
   -- No two of the alternatives read tokens in common.
   abbrev pub all_distinct : ℕ → Ahead K → List A → Bool
   all_distinct depth after [] = true
   all_distinct depth after (a ∷ as') =
-      every (λ b. are_distinct depth (g.symbols a) after (g.symbols b) after) as' && all_distinct depth after as'
+      every (λ b. are_distinct depth (g.symbols a) after (g.symbols b) after) as' && all_distinct
+      depth after as'
 
   -- The tables say of an alternative of a rule no less than holds of it.
   abbrev pub is_covered : R → A → Bool
   is_covered r a =
       is_part t (starts t (g.symbols a) []) (t.begins r)
-      && ((not (may_be_none t (g.symbols a)) || t.may_be_empty r) && is_followed t (g.symbols a) (t.follows r))
+      && ((not (may_be_none t (g.symbols a)) || t.may_be_empty r) && is_followed t (g.symbols a)
+      (t.follows r))
 
   -- The next token decides which alternative of the rule is read.
   abbrev pub is_decided : ℕ → R → Bool
-  is_decided depth r = every (λ a. is_covered r a) (g.alternatives r) && all_distinct depth (t.follows r) (g.alternatives r)
+  is_decided depth r = every (λ a. is_covered r a) (g.alternatives r) && all_distinct depth
+      (t.follows r) (g.alternatives r)
 
   -- The next token decides in each rule, with tables that say what is so.
   pub record Decides (depth : ℕ) : Type 0 where

@@ -23,11 +23,14 @@ IsOneOf a (b ∷ bs) = (a ≡ b) ⊎ IsOneOf a bs
 -- one of its alternatives.
 abbrev pub Fits : {K R A T : Type 0} → Grammar K R A T → List (Symbol K R) → Forest A T → Type 0
 Fits g [] bare = Unit
-Fits g (one class ∷ symbols) (leaf token others) = IsTrue (g.is_of class token) × Fits g symbols others
-Fits g (rule r ∷ symbols) (node a inner others) = IsOneOf a (g.alternatives r) × Fits g (g.symbols a) inner × Fits g symbols others
+Fits g (one class ∷ symbols) (leaf token others) =
+    IsTrue (g.is_of class token) × Fits g symbols others
+Fits g (rule r ∷ symbols) (node a inner others) =
+    IsOneOf a (g.alternatives r) × Fits g (g.symbols a) inner × Fits g symbols others
 Fits g _ _ = ⊥
 
 -- The forest is a reading of the tokens by a rule.
-pub record IsReading {K R A T : Type 0} (g : Grammar K R A T) (r : R) (tokens : List T) (forest : Forest A T) : Type 0 where
+pub record IsReading {K R A T : Type 0} (g : Grammar K R A T) (r : R) (tokens : List T)
+    (forest : Forest A T) : Type 0 where
   pub fits : Fits g (rule r ∷ []) forest
   pub same_tokens : tokens_of forest ≡ tokens

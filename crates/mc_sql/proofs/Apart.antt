@@ -7,11 +7,13 @@ abbrev pub are_apart : Class → Class → Bool
 are_apart (word text) (word other) = not (same_text text other)
 are_apart (word text) name = is_reserved text || same_text text (codes "escape")
 are_apart (word text) called = not (is_called text)
-are_apart (word text) called_otherwise = not (is_called text && not (same_text text (codes "weight_string")))
+are_apart (word text) called_otherwise =
+    not (is_called text && not (same_text text (codes "weight_string")))
 are_apart (word text) intro = not (is_intro text)
 are_apart name (word text) = is_reserved text || same_text text (codes "escape")
 are_apart called (word text) = not (is_called text)
-are_apart called_otherwise (word text) = not (is_called text && not (same_text text (codes "weight_string")))
+are_apart called_otherwise (word text) =
+    not (is_called text && not (same_text text (codes "weight_string")))
 are_apart intro (word text) = not (is_intro text)
 are_apart (mark text) (mark other) = not (same_text text other)
 are_apart name name = false

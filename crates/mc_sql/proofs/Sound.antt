@@ -26,7 +26,8 @@ same_text-sound [] [] h = refl
 same_text-sound [] (d ∷ ds) h = absurd (cc)
 same_text-sound (c ∷ cs) [] h = absurd (cc)
 same_text-sound (c ∷ cs) (d ∷ ds) h =
-    let p : IsTrue (nat_eq c d) × IsTrue (same_text cs ds) = both (nat_eq c d) (same_text cs ds) h in
+    let p : IsTrue (nat_eq c d) × IsTrue (same_text cs ds) =
+    both (nat_eq c d) (same_text cs ds) h in
     let e : c ≡ d = same_number c d p.0 in
     let es : cs ≡ ds = same_text-sound cs ds p.1 in
     cc
@@ -40,29 +41,36 @@ not_both true h k = cc
 not_both false h k = cc
 
 -- A text is not of a test and equal to one that is not.
-apart_by : (test : List ℕ → Bool) (a w : List ℕ) → IsTrue (not (test a)) → IsTrue (same_text w a) → IsTrue (test w) → ⊥
-apart_by test a w h p q = not_both (test a) (subst (λ (x : List ℕ). IsTrue (test x)) (same_text-sound w a p) q) h
+apart_by : (test : List ℕ → Bool) (a w : List ℕ) → IsTrue (not (test a)) → IsTrue (same_text w a)
+    → IsTrue (test w) → ⊥
+apart_by test a w h p q = not_both (test a)
+    (subst (λ (x : List ℕ). IsTrue (test x)) (same_text-sound w a p) q) h
 
-two_texts : (a b w : List ℕ) → IsTrue (not (same_text a b)) → IsTrue (same_text w a) → IsTrue (same_text w b) → ⊥
+two_texts : (a b w : List ℕ) → IsTrue (not (same_text a b)) → IsTrue (same_text w a)
+    → IsTrue (same_text w b) → ⊥
 two_texts a b w h p q =
     let e : a ≡ b = sym (same_text-sound w a p) ∙ same_text-sound w b q in
-    not_both (same_text a b) (subst (λ (x : List ℕ). IsTrue (same_text a x)) e (same_text-itself a)) h
+    not_both (same_text a b) (subst (λ (x : List ℕ). IsTrue (same_text a x)) e
+    (same_text-itself a)) h
 
 -- No string.
 abbrev is_no_str : Option Class → Bool
 is_no_str (Some str) = false
 is_no_str _ = true
 
-no_str_meets : (k : Option Class) (token : Token) (tokens : List Token) → IsTrue (is_no_str k) → Meets statements k (token ∷ tokens)
+no_str_meets : (k : Option Class) (token : Token) (tokens : List Token) → IsTrue (is_no_str k)
+    → Meets statements k (token ∷ tokens)
     → IsTrue (is_lexeme_of str token.kind) → ⊥
 no_str_meets None token tokens h m s = m
 no_str_meets (Some k) token tokens h m s = go k token.kind h m s
   where
-    of_str : (k : Class) (text : List ℕ) → IsTrue (is_no_str (Some k)) → IsTrue (is_lexeme_of k (Str text)) → ⊥
+    of_str : (k : Class) (text : List ℕ) → IsTrue (is_no_str (Some k))
+        → IsTrue (is_lexeme_of k (Str text)) → ⊥
     of_str str text h m = cc
     of_str _ text h m = cc
 
-    go : (k : Class) (x : Lexeme) → IsTrue (is_no_str (Some k)) → IsTrue (is_lexeme_of k x) → IsTrue (is_lexeme_of str x) → ⊥
+    go : (k : Class) (x : Lexeme) → IsTrue (is_no_str (Some k)) → IsTrue (is_lexeme_of k x)
+        → IsTrue (is_lexeme_of str x) → ⊥
     go k (Str text) h m s = of_str k text h m
     go k (Word text) h m s = cc
     go k (Name text) h m s = cc
@@ -71,15 +79,22 @@ no_str_meets (Some k) token tokens h m s = go k token.kind h m s
     go k (Hex text) h m s = cc
     go k (Sym symbol) h m s = cc
 
-no_str_begins : (ks : Ahead Class) (token : Token) (tokens : List Token) → IsTrue (every is_no_str ks) → Begins statements ks (token ∷ tokens)
+no_str_begins : (ks : Ahead Class) (token : Token) (tokens : List Token)
+    → IsTrue (every is_no_str ks) → Begins statements ks (token ∷ tokens)
     → IsTrue (is_lexeme_of str token.kind) → ⊥
 no_str_begins [] token tokens h b s = b
 no_str_begins (k ∷ ks) token tokens h b s =
-    let p : IsTrue (is_no_str k) × IsTrue (every is_no_str ks) = chosen (is_no_str k) (every is_no_str ks) h in
-    elim b [ inl m ↦ no_str_meets k token tokens p.0 m s | inr c ↦ no_str_begins ks token tokens p.1 c s ]
+    let p : IsTrue (is_no_str k) × IsTrue (every is_no_str ks) =
+    chosen (is_no_str k) (every is_no_str ks) h in
+    elim b [
+      | inl m ↦ no_str_meets k token tokens p.0 m s
+      | inr c ↦ no_str_begins ks token tokens
+          p.1 c s
+    ]
 
 -- What stands behind a name is no string.
-no_str_behind : (tokens : List Token) → Begins statements behind_name tokens → Begins statements (Some str ∷ []) tokens → ⊥
+no_str_behind : (tokens : List Token) → Begins statements behind_name tokens
+    → Begins statements (Some str ∷ []) tokens → ⊥
 no_str_behind [] b (inl c) = c
 no_str_behind [] b (inr c) = c
 no_str_behind (token ∷ tokens) b (inl c) = no_str_begins behind_name token tokens refl b c
@@ -89,16 +104,21 @@ either_holds : (a b : Bool) → IsTrue (a || b) → IsTrue a ⊎ IsTrue b
 either_holds true b h = inl refl
 either_holds false b h = inr h
 
-escape_behind : (a : List ℕ) (tokens : List Token) → IsTrue (same_text a (codes "escape")) → StandsBehind statements tables (behind (word a)) tokens
+escape_behind : (a : List ℕ) (tokens : List Token) → IsTrue (same_text a (codes "escape"))
+    → StandsBehind statements tables (behind (word a)) tokens
     → Begins statements (Some str ∷ []) tokens
 escape_behind a tokens h b =
-    subst (λ (t : Bool). StandsBehind statements tables (elim t [ true ↦ Some (Some str ∷ []) | false ↦ None ]) tokens) h b
+    subst (λ (t : Bool). StandsBehind statements tables
+    (elim t [ true ↦ Some (Some str ∷ []) | false ↦ None ]) tokens) h b
 
-word_or_name : (a w : List ℕ) (tokens : List Token) → IsTrue (is_reserved a || same_text a (codes "escape")) → IsTrue (same_text w a)
-    → StandsBehind statements tables (behind (word a)) tokens → IsTrue (not (is_reserved w)) → Begins statements behind_name tokens → ⊥
+word_or_name : (a w : List ℕ) (tokens : List Token)
+    → IsTrue (is_reserved a || same_text a (codes "escape")) → IsTrue (same_text w a)
+    → StandsBehind statements tables (behind (word a)) tokens → IsTrue (not (is_reserved w))
+    → Begins statements behind_name tokens → ⊥
 word_or_name a w tokens h p b q c =
     elim (either_holds (is_reserved a) (same_text a (codes "escape")) h) [
-      | inl r ↦ not_both (is_reserved w) (subst (λ (x : List ℕ). IsTrue (is_reserved x)) (sym (same_text-sound w a p)) r) q
+      | inl r ↦ not_both (is_reserved w)
+          (subst (λ (x : List ℕ). IsTrue (is_reserved x)) (sym (same_text-sound w a p)) r) q
       | inr e ↦ no_str_behind tokens c (escape_behind a tokens e b)
     ]
 
@@ -109,36 +129,44 @@ apart_word : (k l : Class) (w : List ℕ) (tokens : List Token) → IsTrue (are_
 apart_word (word a) (word o) w tokens h p b q c = two_texts a o w h p q
 apart_word (word a) name w tokens h p b q c = word_or_name a w tokens h p b q c
 apart_word (word a) called w tokens h p b q c = apart_by is_called a w h p q
-apart_word (word a) called_otherwise w tokens h p b q c = apart_by (λ x. is_called x && not (same_text x (codes "weight_string"))) a w h p q
+apart_word (word a) called_otherwise w tokens h p b q c =
+    apart_by (λ x. is_called x && not (same_text x (codes "weight_string"))) a w h p q
 apart_word (word a) intro w tokens h p b q c = apart_by is_intro a w h p q
 apart_word name (word a) w tokens h p b q c = word_or_name a w tokens h q c p b
 apart_word called (word a) w tokens h p b q c = apart_by is_called a w h q p
-apart_word called_otherwise (word a) w tokens h p b q c = apart_by (λ x. is_called x && not (same_text x (codes "weight_string"))) a w h q p
+apart_word called_otherwise (word a) w tokens h p b q c =
+    apart_by (λ x. is_called x && not (same_text x (codes "weight_string"))) a w h q p
 apart_word intro (word a) w tokens h p b q c = apart_by is_intro a w h q p
 apart_word _ _ w tokens h p b q c = cc
 
 -- No lexeme of another kind is of both classes.
-apart_mark : (k l : Class) (symbol : Symbol) → IsTrue (are_apart k l) → IsTrue (is_lexeme_of k (Sym symbol)) → IsTrue (is_lexeme_of l (Sym symbol)) → ⊥
+apart_mark : (k l : Class) (symbol : Symbol) → IsTrue (are_apart k l)
+    → IsTrue (is_lexeme_of k (Sym symbol)) → IsTrue (is_lexeme_of l (Sym symbol)) → ⊥
 apart_mark (mark a) (mark o) symbol h p q = two_texts a o (spelling symbol) h p q
 apart_mark _ _ symbol h p q = cc
 
-apart_quoted : (k l : Class) (text : List ℕ) → IsTrue (are_apart k l) → IsTrue (is_lexeme_of k (Name text)) → IsTrue (is_lexeme_of l (Name text)) → ⊥
+apart_quoted : (k l : Class) (text : List ℕ) → IsTrue (are_apart k l)
+    → IsTrue (is_lexeme_of k (Name text)) → IsTrue (is_lexeme_of l (Name text)) → ⊥
 apart_quoted name name text h p q = cc
 apart_quoted _ _ text h p q = cc
 
-apart_int : (k l : Class) (number : _) → IsTrue (are_apart k l) → IsTrue (is_lexeme_of k (Int number)) → IsTrue (is_lexeme_of l (Int number)) → ⊥
+apart_int : (k l : Class) (number : _) → IsTrue (are_apart k l)
+    → IsTrue (is_lexeme_of k (Int number)) → IsTrue (is_lexeme_of l (Int number)) → ⊥
 apart_int int int number h p q = cc
 apart_int _ _ number h p q = cc
 
-apart_str : (k l : Class) (text : List ℕ) → IsTrue (are_apart k l) → IsTrue (is_lexeme_of k (Str text)) → IsTrue (is_lexeme_of l (Str text)) → ⊥
+apart_str : (k l : Class) (text : List ℕ) → IsTrue (are_apart k l)
+    → IsTrue (is_lexeme_of k (Str text)) → IsTrue (is_lexeme_of l (Str text)) → ⊥
 apart_str str str text h p q = cc
 apart_str _ _ text h p q = cc
 
-apart_national : (k l : Class) (text : List ℕ) → IsTrue (are_apart k l) → IsTrue (is_lexeme_of k (National text)) → IsTrue (is_lexeme_of l (National text)) → ⊥
+apart_national : (k l : Class) (text : List ℕ) → IsTrue (are_apart k l)
+    → IsTrue (is_lexeme_of k (National text)) → IsTrue (is_lexeme_of l (National text)) → ⊥
 apart_national national national text h p q = cc
 apart_national _ _ text h p q = cc
 
-apart_hex : (k l : Class) (text : List ℕ) → IsTrue (are_apart k l) → IsTrue (is_lexeme_of k (Hex text)) → IsTrue (is_lexeme_of l (Hex text)) → ⊥
+apart_hex : (k l : Class) (text : List ℕ) → IsTrue (are_apart k l)
+    → IsTrue (is_lexeme_of k (Hex text)) → IsTrue (is_lexeme_of l (Hex text)) → ⊥
 apart_hex hex hex text h p q = cc
 apart_hex _ _ text h p q = cc
 
@@ -175,7 +203,8 @@ same_rule r q h =
 pub decides : Decides statements tables 16
 decides = record {
   apart_classes = λ k l token tokens h m n. apart_lexeme k l token.kind tokens h m.0 m.1 n.0 n.1;
-  inner_classes = λ k l token tokens h m. subst (λ (c : Class). MeetsWhole statements tables (Some c) (token ∷ tokens)) (one_class k l h) m;
+  inner_classes = λ k l token tokens h m. subst
+      (λ (c : Class). MeetsWhole statements tables (Some c) (token ∷ tokens)) (one_class k l h) m;
   same_rules = same_rule;
   each_rule = decided;
 }

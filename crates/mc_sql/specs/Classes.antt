@@ -42,7 +42,8 @@ is_intro (c ∷ text) = nat_eq c 95 && any_of (λ name. same_text text name) set
 -- The word may begin a call with its arguments alone: it is not reserved and not `cast`, or it is
 -- `mod`, which in a primary's place is the word of a call.
 unfoldable pub is_called : List ℕ → Bool
-is_called text = same_text text (codes "mod") || (not (is_reserved text) && not (same_text text (codes "cast")))
+is_called text = same_text text (codes "mod") ||
+    (not (is_reserved text) && not (same_text text (codes "cast")))
 
 -- The spelling of a mark.
 abbrev pub spelling : Symbol → List ℕ
