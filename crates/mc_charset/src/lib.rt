@@ -12,6 +12,8 @@ mod laws;
 mod names;
 mod put;
 mod spelling;
+#[cfg(test)]
+mod tests;
 mod utf8;
 mod well_formed;
 mod wide;
