@@ -3,7 +3,7 @@ ghost use Rattle.mc_order.specs.Consequences.{SameFirstLists, SafeFrontStands, C
 ghost use Rattle.mc_order.specs.Laws.{IsLawful};
 ghost use Rattle.mc_order.specs.Meaning.{Meaning, flat_list, first_chars, IsCharOf, IsSafe};
 ghost use Rattle.mc_order.specs.Order.{list_order};
-ghost use Rattle.std.specs.Prelude.{◌≡◌, ◌<◌, ◌++◌, ◌∷◌, ◌↔◌, [], IsTrue, OnOk, OnErr, length, slice_index_or};
+ghost use Rattle.std.specs.Prelude.{◌≡◌, ◌++◌, ◌∷◌, ◌↔◌, [], IsTrue, OnOk, OnErr, length, slice_index_or};
 
 use crate::Pad;
 use mc_base::{NoMemory, Weights};
@@ -69,9 +69,9 @@ pub trait Collation {
     fn tail_count(&self) -> u32
         ensures { result ≡ length (meaning self.now).tails };
 
-    /// The tail at a place, counted from 0, in lexicographic order.
+    /// The tail at a place, counted from 0, in lexicographic order, or no weights where there are
+    /// no more than `i` tails.
     fn tail(&self, i: u32) -> &[u32]
-        requires { i < length (meaning self.now).tails }
         ensures { result.now ≡ slice_index_or (meaning self.now).tails i [] };
 
     /// Appends the flat list of a text, or of its first `first` characters. Without memory `out`
