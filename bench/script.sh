@@ -1,0 +1,45 @@
+#!/bin/bash
+# How long the proved program takes over a long script: 200,000 comparisons (about 6 MB) and
+# 400,000, beside `cat` and `sort` over the same bytes, in one run. Aim: twice the statements take
+# at most 2.2 times as long.
+#
+#     bench/script.sh [STATEMENTS]
+set -e
+top=$(cd "$(dirname "$0")/.." && pwd)
+count=${1:-200000}
+folder=$(mktemp -d)
+trap 'rm -rf "$folder"' EXIT
+export LC_ALL=C
+
+make_script() { # how many statements, a file
+    awk -v n="$1" 'BEGIN {
+        for (i = 0; i < n; i++)
+            printf "SELECT \047a%06d\047 = \047a%06d \047;\n", i, i + i % 2
+    }' >"$2"
+}
+
+seconds() { # runs a command, and prints how many seconds it took
+    local started ended
+    started=$(date +%s%N)
+    "$@" >"$folder/out"
+    ended=$(date +%s%N)
+    awk -v ns=$((ended - started)) 'BEGIN { printf "%.3f", ns / 1e9 }'
+}
+
+ratio() {
+    awk -v a="$1" -v b="$2" 'BEGIN { printf "%.2f", a / b }'
+}
+
+make_script "$count" "$folder/one.sql"
+make_script $((2 * count)) "$folder/two.sql"
+"$top/mycoll" "$folder/one.sql" >"$folder/out"
+lines=$(wc -l <"$folder/out")
+[ "$lines" = $((2 * count)) ] || { echo "$lines lines were written, wanted $((2 * count))"; exit 1; }
+
+bytes=$(wc -c <"$folder/one.sql")
+one=$(seconds "$top/mycoll" "$folder/one.sql")
+two=$(seconds "$top/mycoll" "$folder/two.sql")
+plain=$(seconds cat "$folder/one.sql")
+sorted=$(seconds sort "$folder/one.sql")
+echo "$count comparisons, $bytes bytes: mycoll $one s, cat $plain s, sort $sorted s; mycoll / sort $(ratio "$one" "$sorted")"
+echo "$((2 * count)) comparisons: mycoll $two s, $(ratio "$two" "$one") times as long"

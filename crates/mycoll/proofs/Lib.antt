@@ -1,0 +1,3 @@
+pub mod AnsweringSteps
+pub mod Comparisons
+pub mod RunSteps
