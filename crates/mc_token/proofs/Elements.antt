@@ -54,7 +54,7 @@ quote_end-step quote bytes at h =
     grind (arith, nat_tests)
 
 -- skipping bytes is dropping them
-elements_behind-drop : (skipped : ℕ) (bytes : List ℕ) → elements_behind skipped bytes ≡ elements (drop skipped bytes)
+pub elements_behind-drop : (skipped : ℕ) (bytes : List ℕ) → elements_behind skipped bytes ≡ elements (drop skipped bytes)
 unfolding elements_behind
 elements_behind-drop zero bytes = refl
 elements_behind-drop (suc skipped) [] = refl

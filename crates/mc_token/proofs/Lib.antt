@@ -1,5 +1,11 @@
 pub mod Elements
 pub mod Lexemes
+pub mod CutParts
+pub mod CutStrings
+pub mod CutOpenings
+pub mod CutElements
+pub mod CutExists
+pub mod CutWhole
 pub mod Statements
 pub mod Lexing
 pub mod TokenLawsText

@@ -1,5 +1,8 @@
 pub mod Bytes
 pub mod Elements
+pub mod Comments
+pub mod Strings
+pub mod Cut
 pub mod Statements
 pub mod Spellings
 pub mod Lexemes

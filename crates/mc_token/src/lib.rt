@@ -1,6 +1,7 @@
 //! The statements of a script and the tokens of a statement.
 #![tactic(auto)]
 
+mod cutting;
 mod element;
 mod laws;
 mod lexeme;
@@ -11,6 +12,7 @@ mod statement;
 mod tests;
 mod token;
 
+pub use cutting::cut_law;
 pub use laws::token_laws;
 pub use lexeme::{LexFault, Lexeme, Symbol, Token};
 pub use statement::next_statement;
