@@ -83,7 +83,7 @@ latin1_class Bmp code h k l = ((λ a. omega arith), (λ b. l))
 latin1_class Unicode code h k l = ((λ a. omega arith), (λ b. tt))
 latin1_class Bytes code h k l = ((λ a. omega arith), (λ b. tt))
 
-latin1_below : (code : ℕ) → is_some (spell SetLatin1 code) ≡ true → code < 0x10000
+pub latin1_below : (code : ℕ) → is_some (spell SetLatin1 code) ≡ true → code < 0x10000
 latin1_below code h =
     elim (cases_lt code 0x10000) [
       | inl l ↦ l

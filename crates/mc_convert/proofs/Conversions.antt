@@ -45,7 +45,7 @@ Continues_end from to text rest done answer c h e =
 
 -- Texts that keep their bytes
 
-joined_parts : (o u : Option (List ℕ)) (text : List ℕ) → option_and_then (λ front. option_and_then (λ rest. Some (front ++ rest)) u) o ≡ Some text → (front : List ℕ) × (rest : List ℕ) × (o ≡ Some front) × (u ≡ Some rest)
+pub joined_parts : (o u : Option (List ℕ)) (text : List ℕ) → option_and_then (λ front. option_and_then (λ rest. Some (front ++ rest)) u) o ≡ Some text → (front : List ℕ) × (rest : List ℕ) × (o ≡ Some front) × (u ≡ Some rest)
 joined_parts (Some front) (Some rest) text h = (front, rest, refl, refl)
 joined_parts (Some front) None text h = absurd (cc)
 joined_parts None u text h = absurd (cc)

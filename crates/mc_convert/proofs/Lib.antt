@@ -1,3 +1,4 @@
 pub mod Classes
 pub mod PlainTexts
 pub mod Conversions
+pub mod Lossless

@@ -3,11 +3,13 @@
 
 mod conversion;
 mod exact;
+mod laws;
 mod padding;
 mod plain;
 mod repertoire;
 
 pub use conversion::convert;
 pub use exact::{ConvertFault, convert_exact};
+pub use laws::conversion_law;
 pub use padding::reinterpret;
 pub use repertoire::{Repertoire, cap, repertoire_of};
