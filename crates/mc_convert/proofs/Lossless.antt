@@ -38,7 +38,7 @@ covered : (lo hi : ℕ) (rows : List Row) (code : ℕ) → covers lo hi rows ≡
 covered lo hi [] code h k l = let m : hi ≤ lo = grind (arith, nat_tests) in absurd (omega arith)
 covered lo hi (row ∷ rows) code h k l =
     covered_step (has_code row code) (sequence row.bytes (code - row.first)) (spelling_in rows code)
-        (λ e. covered (reach lo row) hi rows code h (reach_below lo code row k e) l)
+    (λ e. covered (reach lo row) hi rows code h (reach_below lo code row k e) l)
 
 -- Unicode's scalar values: the code points that are no surrogates.
 abbrev pub IsScalar : ℕ → Type 0
@@ -81,9 +81,9 @@ spelled_scalar [] code h k = absurd (false≢true k)
 spelled_scalar (row ∷ rows) code h k =
     let p = and_parts (leb (row.first + count row.bytes) 0xD800 || (leb 0xE000 row.first && leb (row.first + count row.bytes) 0x110000)) (are_scalar rows) h in
     scalar_step (has_code row code) (sequence row.bytes (code - row.first)) (spelling_in rows code) (IsScalar code)
-        (λ t. row_scalar row.first (row.first + count row.bytes) code p.0 t)
-        (λ t. spelled_scalar rows code p.1 t)
-        k
+    (λ t. row_scalar row.first (row.first + count row.bytes) code p.0 t)
+    (λ t. spelled_scalar rows code p.1 t)
+    k
 
 -- Code points that sets have
 

@@ -7,6 +7,8 @@ mod laws;
 mod padding;
 mod plain;
 mod repertoire;
+#[cfg(test)]
+mod tests;
 
 pub use conversion::convert;
 pub use exact::{ConvertFault, convert_exact};
