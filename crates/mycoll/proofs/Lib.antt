@@ -1,3 +1,4 @@
 pub mod AnsweringSteps
 pub mod Comparisons
 pub mod RunSteps
+pub mod StandardFacts

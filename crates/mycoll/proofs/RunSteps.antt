@@ -18,17 +18,21 @@ use Rattle.mycoll.specs.Words.{script_word, usage_line}
 use Rattle.mycoll.specs.Run.{Plan, plan, files_plan, whole, one_line, script_plan, HasWritten, IsComplete, ReadCause, WriteCause, answered_status, line_status}
 use Rattle.mycoll.proofs.AnsweringSteps.{appended-nil}
 
-whole-texts : (all : List Answer) → answers_text all ≡ whole (map (λ (answer : Answer). answer.text) all)
-whole-texts all = sym (flat_map-map (λ (part : List ℕ). part) (λ (answer : Answer). answer.text) all)
+whole-texts : (all : List Answer)
+    → answers_text all ≡ whole (map (λ (answer : Answer). answer.text) all)
+whole-texts all =
+    sym (flat_map-map (λ (part : List ℕ). part) (λ (answer : Answer). answer.text) all)
 
-take-texts : (n : ℕ) (all : List Answer) → map (λ (answer : Answer). answer.text) (take n all) ≡ take n (map (λ (answer : Answer). answer.text) all)
+take-texts : (n : ℕ) (all : List Answer)
+    → map (λ (answer : Answer). answer.text) (take n all) ≡ take n (map (λ (answer : Answer). answer.text) all)
 take-texts zero all = refl
 take-texts (suc n) [] = refl
 take-texts (suc n) (a ∷ all) = ap (λ xs. a.text ∷ xs) (take-texts n all)
 
 -- The answers that were written carry out the plan of their script.
 pub answers_carried : (m : Meaning) (script : List ℕ) (r : Result Bool Stopped) (before after : Option (List ℕ))
-    → AnswersWritten (answers m script) r before after → HasWritten (script_plan m script) (answered_status r) before after
+    → AnswersWritten (answers m script) r before after
+        → HasWritten (script_plan m script) (answered_status r) before after
 unfolding script_plan
 answers_carried m script (Ok true) before after h = record {
   ends = ap (λ b. cond b SomeRefused Done) (sym h.0);
@@ -38,21 +42,29 @@ answers_carried m script (Ok false) before after h = record {
   ends = ap (λ b. cond b SomeRefused Done) (sym h.0);
   written = h.1 ∙ ap (appended before) (whole-texts (answers m script));
 }
-answers_carried m script (Err Fault) before after h = (h.0, h.1 ∙ ap (λ t. appended before (take h.0 t)) (whole-texts (answers m script)))
+answers_carried m script (Err Fault) before after h =
+    (h.0, h.1 ∙ ap (λ t. appended before (take h.0 t)) (whole-texts (answers m script)))
 answers_carried m script (Err OutOfMemory) before after h =
-    (h.0, h.1 ∙ ap (appended before) (whole-texts (take h.0 (answers m script)) ∙ ap whole (take-texts h.0 (answers m script))))
+    (h.0, h.1 ∙ ap (appended before) (whole-texts (take h.0 (answers m script))
+        ∙ ap whole (take-texts h.0 (answers m script))))
 
 -- A line that was written carries out a plan of one line.
 pub usage_carried : (line : List ℕ) (r : Result (Unit {0}) Stopped) (before after : Option (List ℕ))
-    → Written line r before after → HasWritten (one_line line Usage) (line_status Usage r) before after
-usage_carried line (Ok _) before after h = record { ends = refl; written = h ∙ ap (appended before) (sym (append-nil line)) }
-usage_carried line (Err Fault) before after h = (h.0, h.1 ∙ ap (λ t. appended before (take h.0 t)) (sym (append-nil line)))
+    → Written line r before after
+        → HasWritten (one_line line Usage) (line_status Usage r) before after
+usage_carried line (Ok _) before after h = record { ends = refl; written =
+    h ∙ ap (appended before) (sym (append-nil line)) }
+usage_carried line (Err Fault) before after h =
+    (h.0, h.1 ∙ ap (λ t. appended before (take h.0 t)) (sym (append-nil line)))
 usage_carried line (Err OutOfMemory) before after h = (0, h ∙ sym (appended-nil before))
 
 pub refusal_carried : (line : List ℕ) (r : Result (Unit {0}) Stopped) (before after : Option (List ℕ))
-    → Written line r before after → HasWritten (one_line line FilesRefused) (line_status FilesRefused r) before after
-refusal_carried line (Ok _) before after h = record { ends = refl; written = h ∙ ap (appended before) (sym (append-nil line)) }
-refusal_carried line (Err Fault) before after h = (h.0, h.1 ∙ ap (λ t. appended before (take h.0 t)) (sym (append-nil line)))
+    → Written line r before after
+        → HasWritten (one_line line FilesRefused) (line_status FilesRefused r) before after
+refusal_carried line (Ok _) before after h = record { ends = refl; written =
+    h ∙ ap (appended before) (sym (append-nil line)) }
+refusal_carried line (Err Fault) before after h =
+    (h.0, h.1 ∙ ap (λ t. appended before (take h.0 t)) (sym (append-nil line)))
 refusal_carried line (Err OutOfMemory) before after h = (0, h ∙ sym (appended-nil before))
 
 -- Memory ran out before anything was written.
@@ -60,17 +72,27 @@ pub nothing_carried : (p : Plan) (before : Option (List ℕ)) → HasWritten p N
 nothing_carried p before = (0, sym (appended-nil before))
 
 -- The plan of the files is that of their outcome.
-pub plan-script : (m : Meaning) (files : List ℕ → Option (List ℕ)) (name script : List ℕ) → script_outcome files name ≡ Ok script → files_plan m files name ≡ script_plan m script
+pub plan-script : (m : Meaning) (files : List ℕ → Option (List ℕ)) (name script : List ℕ)
+    → script_outcome files name ≡ Ok script → files_plan m files name ≡ script_plan m script
 unfolding files_plan
-plan-script m files name script e = ap (λ (o : Result (List ℕ) FileRefusal). elim o as (λ _. Plan) [ Ok s ↦ script_plan m s | Err r ↦ one_line (refused_line r) FilesRefused ]) e
+plan-script m files name script e =
+    ap (λ (o : Result (List ℕ) FileRefusal). elim o as (λ _. Plan) [ Ok s ↦ script_plan m s
+        | Err r ↦ one_line (refused_line r) FilesRefused ]) e
 
-pub plan-refusal : (m : Meaning) (files : List ℕ → Option (List ℕ)) (name : List ℕ) (refusal : FileRefusal) → script_outcome files name ≡ Err refusal → files_plan m files name ≡ one_line (refused_line refusal) FilesRefused
+pub plan-refusal : (m : Meaning) (files : List ℕ
+    → Option (List ℕ)) (name : List ℕ) (refusal : FileRefusal)
+        → script_outcome files name ≡ Err refusal
+            → files_plan m files name ≡ one_line (refused_line refusal) FilesRefused
 unfolding files_plan
-plan-refusal m files name refusal e = ap (λ (o : Result (List ℕ) FileRefusal). elim o as (λ _. Plan) [ Ok s ↦ script_plan m s | Err r ↦ one_line (refused_line r) FilesRefused ]) e
+plan-refusal m files name refusal e =
+    ap (λ (o : Result (List ℕ) FileRefusal). elim o as (λ _. Plan) [ Ok s ↦ script_plan m s
+        | Err r ↦ one_line (refused_line r) FilesRefused ]) e
 
 -- An accepted script that was answered so.
-pub script_run : (m : Meaning) (told : Option (List ℕ → Option (List ℕ))) (name script : List ℕ) (r : Result Bool Stopped) (status : Status) (before after : Option (List ℕ))
-    → IfSome told (λ files. script_outcome files name ≡ Ok script) → status ≡ answered_status r → AnswersWritten (answers m script) r before after
+pub script_run : (m : Meaning) (told : Option (List ℕ
+    → Option (List ℕ))) (name script : List ℕ) (r : Result Bool Stopped) (status : Status) (before after : Option (List ℕ))
+    → IfSome told (λ files. script_outcome files name ≡ Ok script) → status ≡ answered_status r
+        → AnswersWritten (answers m script) r before after
     → IfSome told (λ files. HasWritten (files_plan m files name) status before after)
 script_run m None name script r status before after h e w = tt
 script_run m (Some files) name script r status before after h e w =
@@ -78,8 +100,10 @@ script_run m (Some files) name script r status before after h e w =
     (subst (λ (s : Status). HasWritten (script_plan m script) s before after) (sym e) (answers_carried m script r before after w))
 
 -- A refused file whose line was written so.
-pub refusal_run : (m : Meaning) (told : Option (List ℕ → Option (List ℕ))) (name : List ℕ) (refusal : FileRefusal) (r : Result (Unit {0}) Stopped) (status : Status) (before after : Option (List ℕ))
-    → IfSome told (λ files. script_outcome files name ≡ Err refusal) → status ≡ line_status FilesRefused r → Written (refused_line refusal) r before after
+pub refusal_run : (m : Meaning) (told : Option (List ℕ
+    → Option (List ℕ))) (name : List ℕ) (refusal : FileRefusal) (r : Result (Unit {0}) Stopped) (status : Status) (before after : Option (List ℕ))
+    → IfSome told (λ files. script_outcome files name ≡ Err refusal)
+        → status ≡ line_status FilesRefused r → Written (refused_line refusal) r before after
     → IfSome told (λ files. HasWritten (files_plan m files name) status before after)
 refusal_run m None name refusal r status before after h e w = tt
 refusal_run m (Some files) name refusal r status before after h e w =
@@ -87,13 +111,15 @@ refusal_run m (Some files) name refusal r status before after h e w =
     (subst (λ (s : Status). HasWritten (one_line (refused_line refusal) FilesRefused) s before after) (sym e) (refusal_carried (refused_line refusal) r before after w))
 
 -- No file was read, or no memory was left: nothing was written.
-pub nothing_run : (m : Meaning) (told : Option (List ℕ → Option (List ℕ))) (name : List ℕ) (before : Option (List ℕ))
+pub nothing_run : (m : Meaning) (told : Option (List ℕ
+    → Option (List ℕ))) (name : List ℕ) (before : Option (List ℕ))
     → IfSome told (λ files. HasWritten (files_plan m files name) NoMemory before before)
 nothing_run m None name before = tt
 nothing_run m (Some files) name before = nothing_carried (files_plan m files name) before
 
 -- Words of no form, whose usage line was written so.
-pub usage_run : (m : Meaning) (told : Option (List ℕ → Option (List ℕ))) (words : List (List ℕ)) (r : Result (Unit {0}) Stopped) (status : Status) (before after : Option (List ℕ))
+pub usage_run : (m : Meaning) (told : Option (List ℕ
+    → Option (List ℕ))) (words : List (List ℕ)) (r : Result (Unit {0}) Stopped) (status : Status) (before after : Option (List ℕ))
     → script_word words ≡ None → status ≡ line_status Usage r → Written usage_line r before after
     → IfSome (plan m told words) (λ p. HasWritten p status before after)
 unfolding plan
@@ -103,7 +129,8 @@ usage_run m told words r status before after h e w =
 
 -- A run that wrote so, and failed only where a device did, ends as its plan does where none did.
 pub complete : (p : Plan) (status : Status) (before after : Option (List ℕ)) (reads reads' writes writes' : ℕ)
-    → HasWritten p status before after → ReadCause status reads reads' before after → WriteCause status writes writes' → IsComplete p status reads reads' writes writes'
+    → HasWritten p status before after → ReadCause status reads reads' before after
+        → WriteCause status writes writes' → IsComplete p status reads reads' writes writes'
 complete p Done before after r r' w w' h c d = λ _ _. inl (sym h.ends)
 complete p SomeRefused before after r r' w w' h c d = λ _ _. inl (sym h.ends)
 complete p Usage before after r r' w w' h c d = λ _ _. inl (sym h.ends)
@@ -113,7 +140,9 @@ complete p WriteFault before after r r' w w' h c d = λ _ no. absurd (no d)
 complete p NoMemory before after r r' w w' h c d = λ _ _. inr refl
 
 pub complete_told : (told : Option Plan) (status : Status) (before after : Option (List ℕ)) (reads reads' writes writes' : ℕ)
-    → IfSome told (λ p. HasWritten p status before after) → ReadCause status reads reads' before after → WriteCause status writes writes'
+    → IfSome told (λ p. HasWritten p status before after)
+        → ReadCause status reads reads' before after → WriteCause status writes writes'
     → IfSome told (λ p. IsComplete p status reads reads' writes writes')
 complete_told None status before after r r' w w' h c d = tt
-complete_told (Some p) status before after r r' w w' h c d = complete p status before after r r' w w' h c d
+complete_told (Some p) status before after r r' w w' h c d =
+    complete p status before after r r' w w' h c d

@@ -13,7 +13,8 @@ use Rattle.mycoll.specs.declared.comparison.Comparison.{Comparison}
 use Rattle.mycoll.specs.Comparison.{comparison_of}
 use Rattle.mycoll.specs.Print.{line, escaped, refusal_line}
 
--- The texts are equal under the collation: the flat lists of their characters have no order between them.
+-- The texts are equal under the collation: the flat lists of their characters have no order
+-- between them.
 abbrev pub are_equal : Meaning → List ℕ → List ℕ → Bool
 are_equal m left right =
     is_eq (list_order m.pad m.space (flat_list m (chars m.charset left)) (flat_list m (chars m.charset right)))
@@ -44,11 +45,13 @@ answer_of_reading m script statement (Some comparison) = comparison_answer m scr
 
 -- The comparison that a statement reads as, if it has tokens and they read as one.
 unfoldable pub reading_of : List ℕ → Span → Option Comparison
-reading_of script statement = elim (tokens_of script statement) [ Ok tokens ↦ comparison_of tokens | Err fault ↦ None ]
+reading_of script statement =
+    elim (tokens_of script statement) [ Ok tokens ↦ comparison_of tokens | Err fault ↦ None ]
 
 -- The answer to a statement of a script.
 unfoldable pub statement_answer : Meaning → List ℕ → Span → Answer
-statement_answer m script statement = answer_of_reading m script statement (reading_of script statement)
+statement_answer m script statement =
+    answer_of_reading m script statement (reading_of script statement)
 
 -- The answers to the statements of a script from a place on.
 abbrev pub answers_from : Meaning → List ℕ → ℕ → List Answer

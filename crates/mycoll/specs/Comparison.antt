@@ -1,4 +1,5 @@
--- The comparison of two strings that the tokens of a statement read as: MySQL 8.0 manual, 13.2.13 and 12.4.2.
+-- The comparison of two strings that the tokens of a statement read as: MySQL 8.0 manual,
+-- 13.2.13 and 12.4.2.
 use Rattle.std.specs.Prelude.{ℕ, ◌≤◌, IsUtf8, Bool, true, false, ◌&&◌, List, [], ◌∷◌, Option, Some, None, nat_eq, ◌==◌, if◌then◌else◌, drop, length, codes}
 use Rattle.std.specs.List.{flat_map, take_while, prefix_len}
 use lib.Pointwise.{pointwise}

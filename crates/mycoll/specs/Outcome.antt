@@ -14,7 +14,8 @@ refused name fault at = record { name = name; fault = fault; at = at }
 -- A script has to be UTF-8; the refusal tells how long its longest valid prefix is.
 abbrev pub utf8_outcome : List ℕ → List ℕ → Result (List ℕ) FileRefusal
 utf8_outcome name text =
-    if nat_lt (utf8_valid_len text) (length text) then Err (refused name (codes "NotUtf8") (utf8_valid_len text))
+    if nat_lt (utf8_valid_len text) (length text)
+        then Err (refused name (codes "NotUtf8") (utf8_valid_len text))
     else Ok text
 
 -- The script of this name: there, at most 16,777,216 bytes long, and UTF-8.
@@ -28,4 +29,5 @@ script_outcome files name = elim (files name) [
 
 -- The line of a refused file.
 abbrev pub refused_line : FileRefusal → List ℕ
-refused_line r = codes "refused " ++ r.name ++ codes " " ++ r.fault ++ codes " " ++ line (decimal r.at)
+refused_line r =
+    codes "refused " ++ r.name ++ codes " " ++ r.fault ++ codes " " ++ line (decimal r.at)

@@ -20,7 +20,8 @@ use Rattle.mycoll.specs.Answers.{answers, some_refused}
 abbrev pub utf8mb4_bin : Meaning
 utf8mb4_bin = bin_meaning (Utf8mb4, PadSpace)
 
--- What is to be written, in the parts that are written whole or not at all where memory runs out, and how a run ends that has written them all.
+-- What is to be written, in the parts that are written whole or not at all where memory runs
+-- out, and how a run ends that has written them all.
 pub record Plan : Type 0 where
   pub parts : List (List ℕ)
   pub status : Status
@@ -58,7 +59,9 @@ pub record IsCarriedOut (p : Plan) (status : Status) (before after : Option (Lis
   pub ends : p.status ≡ status
   pub written : after ≡ appended before (whole p.parts)
 
--- What was written by the end, which has this status: all of the plan; nothing after a read fault; some first bytes of the plan after a write fault; some first parts of it where memory ran out.
+-- What was written by the end, which has this status: all of the plan; nothing after a read
+-- fault; some first bytes of the plan after a write fault; some first parts of it where memory
+-- ran out.
 abbrev pub HasWritten : Plan → Status → Option (List ℕ) → Option (List ℕ) → Type 0
 HasWritten p Done before after = IsCarriedOut p Done before after
 HasWritten p SomeRefused before after = IsCarriedOut p SomeRefused before after
