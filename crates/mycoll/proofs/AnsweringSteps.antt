@@ -42,13 +42,18 @@ text-one a = append-nil a.text
 -- Nothing is done at first.
 pub none_so_far : (all : List Answer) (before : Option (List ℕ))
     → IsSoFar all all false before before
-none_so_far all before = record { done = []; whole = refl; told = refl; written =
-    sym (appended-nil before) }
+none_so_far all before = record {
+  done = [];
+  whole = refl;
+  told = refl;
+  written =
+      sym (appended-nil before);
+}
 
 -- One more answer is done.
 pub one_more : (all rest : List Answer) (a : Answer) (refused : Bool) (before now next : Option (List ℕ))
     → IsSoFar all (a ∷ rest) refused before now → next ≡ appended now a.text
-        → IsSoFar all rest (refused || a.refused) before next
+    → IsSoFar all rest (refused || a.refused) before next
 one_more all rest a refused before now next s e = record {
   done = s.done ++ a ∷ [];
   whole = append_assoc s.done (a ∷ []) rest ∙ s.whole;
@@ -57,7 +62,7 @@ one_more all rest a refused before now next s e = record {
   written = e ∙ ap (λ w. appended w a.text) s.written
       ∙ appended-append before (answers_text s.done) a.text
       ∙ ap (appended before) (sym (flat_map-append (λ (x : Answer). x.text) s.done (a ∷ [])
-          ∙ ap (λ t. answers_text s.done ++ t) (text-one a)));
+      ∙ ap (λ t. answers_text s.done ++ t) (text-one a)));
 }
 
 -- A front of y, with x before it, is a front of the whole.
@@ -81,16 +86,18 @@ part_written all rest a refused before now next n s e =
       e ∙ ap (λ w. appended w (take n a.text)) s.written
           ∙ appended-append before (answers_text s.done) (take n a.text)
           ∙ ap (appended before) (sym (ap (λ t. take r.0 t) (ap answers_text (sym s.whole)
-              ∙ flat_map-append (λ (x : Answer). x.text) s.done (a ∷ rest)) ∙ r.1)),
+          ∙ flat_map-append (λ (x : Answer). x.text) s.done (a ∷ rest)) ∙ r.1)),
     )
 
 -- What is written so far are the answers that are done, whole.
 whole_written : (all rest : List Answer) (refused : Bool) (before now : Option (List ℕ))
     → IsSoFar all rest refused before now
-        → (k : ℕ) × (now ≡ appended before (answers_text (take k all)))
-whole_written all rest refused before now s =
-    (length s.done, s.written
-        ∙ ap (λ t. appended before (answers_text t)) (sym (ap (λ t. take (length s.done) t) (sym s.whole) ∙ take-append_seam s.done rest)))
+    → (k : ℕ) × (now ≡ appended before (answers_text (take k all)))
+whole_written all rest refused before now s = (
+  length s.done,
+  s.written
+      ∙ ap (λ t. appended before (answers_text t)) (sym (ap (λ t. take (length s.done) t) (sym s.whole) ∙ take-append_seam s.done rest)),
+)
 
 -- Memory ran out before the next answer.
 pub stopped_before : (all rest : List Answer) (refused : Bool) (before now : Option (List ℕ))
@@ -100,9 +107,9 @@ stopped_before all rest refused before now s = whole_written all rest refused be
 -- Writing the next answer stopped.
 pub stopped_within : (all rest : List Answer) (a : Answer) (refused : Bool) (before now next : Option (List ℕ)) (stop : Stopped) (bytes : List ℕ)
     → bytes ≡ a.text → IsSoFar all (a ∷ rest) refused before now
-        → Written bytes (Err stop) now next → AnswersWritten all (Err stop) before next
+    → Written bytes (Err stop) now next → AnswersWritten all (Err stop) before next
 stopped_within all rest a refused before now next Fault bytes same s w =
     part_written all rest a refused before now next w.0 s (w.1
-        ∙ ap (λ t. appended now (take w.0 t)) same)
+    ∙ ap (λ t. appended now (take w.0 t)) same)
 stopped_within all rest a refused before now next NoMemory bytes same s w =
     let k = whole_written all (a ∷ rest) refused before now s in (k.0, w ∙ k.1)

@@ -59,9 +59,16 @@ record AreParts (lefts behind : List Token) (comparison : Comparison) : Type 0 w
   rights : List Token
   before : lefts ≡ left ∷ lefts_behind
   after : behind ≡ equals ∷ (right ∷ rights)
-  is : record { left = joined_text (left ∷ lefts_behind); right =
-      joined_text (right ∷ rights); header = record { start = left.span.start; end =
-          last_end right rights } } ≡ comparison
+  is : record {
+    left = joined_text (left ∷ lefts_behind);
+    right =
+        joined_text (right ∷ rights);
+    header = record {
+      start = left.span.start;
+      end =
+          last_end right rights;
+    };
+  } ≡ comparison
 
 chosen : (b : Bool) (x y : Comparison) → cond b (Some x) None ≡ Some y → x ≡ y
 chosen true x y e = cc
@@ -90,15 +97,15 @@ parts_behind : (select : Token) (ts : List Token) (comparison : Comparison)
 unfolding comparison_of
 parts_behind select ts comparison e =
     parts _ _ comparison (selected (is_select select) _ comparison e) where
-  selected : (b : Bool) (o : Option Comparison) (y : Comparison) → cond b o None ≡ Some y
-      → o ≡ Some y
-  selected true o y e = e
-  selected false o y e = cc
+      selected : (b : Bool) (o : Option Comparison) (y : Comparison) → cond b o None ≡ Some y
+          → o ≡ Some y
+      selected true o y e = e
+      selected false o y e = cc
 
 -- The header lies within the tokens' places.
 pub header_within : (from to : ℕ) (tokens : List Token) (comparison : Comparison)
     → AreInOrder from to tokens → comparison_of tokens ≡ Some comparison
-        → HeaderIsWithin from to comparison
+    → HeaderIsWithin from to comparison
 unfolding comparison_of
 header_within from to [] comparison h e = cc
 header_within from to (select ∷ ts) comparison h e =
@@ -106,7 +113,7 @@ header_within from to (select ∷ ts) comparison h e =
     let k = length (take_while is_string ts) in
     let s = split_in_order k select.span.end to ts p.left p.lefts_behind h.2 (take-length_take (prefix_len is_string ts) ts ∙ p.before) in
     let behind : AreInOrder s.0 to (p.equals ∷ (p.right ∷ p.rights)) =
-        subst (AreInOrder s.0 to) p.after s.3 in
+    subst (AreInOrder s.0 to) p.after s.3 in
     let l = last_end-in_order p.equals.span.end to p.right p.rights behind.2 in
     let a : from ≤ select.span.start = h.0 in
     let b : select.span.start < select.span.end = h.1 in
@@ -116,8 +123,12 @@ header_within from to (select ∷ ts) comparison h e =
     let g : p.equals.span.start < p.equals.span.end = behind.1 in
     let i : p.equals.span.end ≤ p.right.span.start = behind.2.0 in
     let j : p.right.span.start ≤ last_end p.right p.rights = l.0 in
-    subst (HeaderIsWithin from to) p.is (record { begins = omega arith; in_order =
-        omega arith; ends = l.1 })
+    subst (HeaderIsWithin from to) p.is (record {
+      begins = omega arith;
+      in_order =
+          omega arith;
+      ends = l.1;
+    })
 
 -- The text of a token is UTF-8: that of a string, or none.
 text_of : (kind : Lexeme) → HasUtf8Text kind
@@ -153,22 +164,32 @@ texts_utf8 [] comparison h e = cc
 texts_utf8 (select ∷ ts) comparison h e =
     let p = parts_behind select ts comparison e in
     let lefts : HaveUtf8Texts (p.left ∷ p.lefts_behind) =
-        subst HaveUtf8Texts p.before (take_utf8 (prefix_len is_string ts) ts h.1) in
+    subst HaveUtf8Texts p.before (take_utf8 (prefix_len is_string ts) ts h.1) in
     let behind : HaveUtf8Texts (p.equals ∷ (p.right ∷ p.rights)) =
-        subst HaveUtf8Texts p.after (drop_utf8 (length (take_while is_string ts)) ts h.1) in
-    subst TextsAreUtf8 p.is (record { left = joined_utf8 (p.left ∷ p.lefts_behind) lefts; right =
-        joined_utf8 (p.right ∷ p.rights) behind.1 })
+    subst HaveUtf8Texts p.after (drop_utf8 (length (take_while is_string ts)) ts h.1) in
+    subst TextsAreUtf8 p.is (record {
+      left = joined_utf8 (p.left ∷ p.lefts_behind) lefts;
+      right =
+          joined_utf8 (p.right ∷ p.rights) behind.1;
+    })
 
 within_script : (from to length : ℕ) (comparison : Comparison) → to ≤ length
     → HeaderIsWithin from to comparison → HeaderIsWithin 0 length comparison
-within_script from to length comparison e h = record { begins = omega arith; in_order =
-    h.in_order; ends = omega (arith, h.ends) }
+within_script from to length comparison e h = record {
+  begins = omega arith;
+  in_order =
+      h.in_order;
+  ends = omega (arith, h.ends);
+}
 
 -- What is read from tokens in order, whose strings are UTF-8, is of the script.
 pub comparison_of_script : (script : List ℕ) (from to : ℕ) (tokens : List Token) (o : Option Comparison)
     → to ≤ length script → AreInOrder from to tokens → HaveUtf8Texts tokens
-        → o ≡ comparison_of tokens → IfSome o (IsOfScript script)
+    → o ≡ comparison_of tokens → IfSome o (IsOfScript script)
 comparison_of_script script from to tokens None e a t h = tt
 comparison_of_script script from to tokens (Some comparison) e a t h =
-    record { header =
-        within_script from to (length script) comparison e (header_within from to tokens comparison a (sym h)); texts = texts_utf8 tokens comparison t (sym h) }
+    record {
+      header =
+          within_script from to (length script) comparison e (header_within from to tokens comparison a (sym h));
+      texts = texts_utf8 tokens comparison t (sym h);
+    }

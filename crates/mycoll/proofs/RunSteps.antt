@@ -32,7 +32,7 @@ take-texts (suc n) (a ∷ all) = ap (λ xs. a.text ∷ xs) (take-texts n all)
 -- The answers that were written carry out the plan of their script.
 pub answers_carried : (m : Meaning) (script : List ℕ) (r : Result Bool Stopped) (before after : Option (List ℕ))
     → AnswersWritten (answers m script) r before after
-        → HasWritten (script_plan m script) (answered_status r) before after
+    → HasWritten (script_plan m script) (answered_status r) before after
 unfolding script_plan
 answers_carried m script (Ok true) before after h = record {
   ends = ap (λ b. cond b SomeRefused Done) (sym h.0);
@@ -44,25 +44,33 @@ answers_carried m script (Ok false) before after h = record {
 }
 answers_carried m script (Err Fault) before after h =
     (h.0, h.1 ∙ ap (λ t. appended before (take h.0 t)) (whole-texts (answers m script)))
-answers_carried m script (Err OutOfMemory) before after h =
-    (h.0, h.1 ∙ ap (appended before) (whole-texts (take h.0 (answers m script))
-        ∙ ap whole (take-texts h.0 (answers m script))))
+answers_carried m script (Err OutOfMemory) before after h = (
+  h.0,
+  h.1 ∙ ap (appended before) (whole-texts (take h.0 (answers m script))
+      ∙ ap whole (take-texts h.0 (answers m script))),
+)
 
 -- A line that was written carries out a plan of one line.
 pub usage_carried : (line : List ℕ) (r : Result (Unit {0}) Stopped) (before after : Option (List ℕ))
     → Written line r before after
-        → HasWritten (one_line line Usage) (line_status Usage r) before after
-usage_carried line (Ok _) before after h = record { ends = refl; written =
-    h ∙ ap (appended before) (sym (append-nil line)) }
+    → HasWritten (one_line line Usage) (line_status Usage r) before after
+usage_carried line (Ok _) before after h = record {
+  ends = refl;
+  written =
+      h ∙ ap (appended before) (sym (append-nil line));
+}
 usage_carried line (Err Fault) before after h =
     (h.0, h.1 ∙ ap (λ t. appended before (take h.0 t)) (sym (append-nil line)))
 usage_carried line (Err OutOfMemory) before after h = (0, h ∙ sym (appended-nil before))
 
 pub refusal_carried : (line : List ℕ) (r : Result (Unit {0}) Stopped) (before after : Option (List ℕ))
     → Written line r before after
-        → HasWritten (one_line line FilesRefused) (line_status FilesRefused r) before after
-refusal_carried line (Ok _) before after h = record { ends = refl; written =
-    h ∙ ap (appended before) (sym (append-nil line)) }
+    → HasWritten (one_line line FilesRefused) (line_status FilesRefused r) before after
+refusal_carried line (Ok _) before after h = record {
+  ends = refl;
+  written =
+      h ∙ ap (appended before) (sym (append-nil line));
+}
 refusal_carried line (Err Fault) before after h =
     (h.0, h.1 ∙ ap (λ t. appended before (take h.0 t)) (sym (append-nil line)))
 refusal_carried line (Err OutOfMemory) before after h = (0, h ∙ sym (appended-nil before))
@@ -76,23 +84,27 @@ pub plan-script : (m : Meaning) (files : List ℕ → Option (List ℕ)) (name s
     → script_outcome files name ≡ Ok script → files_plan m files name ≡ script_plan m script
 unfolding files_plan
 plan-script m files name script e =
-    ap (λ (o : Result (List ℕ) FileRefusal). elim o as (λ _. Plan) [ Ok s ↦ script_plan m s
-        | Err r ↦ one_line (refused_line r) FilesRefused ]) e
+    ap (λ (o : Result (List ℕ) FileRefusal). elim o as (λ _. Plan) [
+      | Ok s ↦ script_plan m s
+      | Err r ↦ one_line (refused_line r) FilesRefused
+    ]) e
 
 pub plan-refusal : (m : Meaning) (files : List ℕ
     → Option (List ℕ)) (name : List ℕ) (refusal : FileRefusal)
-        → script_outcome files name ≡ Err refusal
-            → files_plan m files name ≡ one_line (refused_line refusal) FilesRefused
+    → script_outcome files name ≡ Err refusal
+    → files_plan m files name ≡ one_line (refused_line refusal) FilesRefused
 unfolding files_plan
 plan-refusal m files name refusal e =
-    ap (λ (o : Result (List ℕ) FileRefusal). elim o as (λ _. Plan) [ Ok s ↦ script_plan m s
-        | Err r ↦ one_line (refused_line r) FilesRefused ]) e
+    ap (λ (o : Result (List ℕ) FileRefusal). elim o as (λ _. Plan) [
+      | Ok s ↦ script_plan m s
+      | Err r ↦ one_line (refused_line r) FilesRefused
+    ]) e
 
 -- An accepted script that was answered so.
 pub script_run : (m : Meaning) (told : Option (List ℕ
     → Option (List ℕ))) (name script : List ℕ) (r : Result Bool Stopped) (status : Status) (before after : Option (List ℕ))
     → IfSome told (λ files. script_outcome files name ≡ Ok script) → status ≡ answered_status r
-        → AnswersWritten (answers m script) r before after
+    → AnswersWritten (answers m script) r before after
     → IfSome told (λ files. HasWritten (files_plan m files name) status before after)
 script_run m None name script r status before after h e w = tt
 script_run m (Some files) name script r status before after h e w =
@@ -103,7 +115,7 @@ script_run m (Some files) name script r status before after h e w =
 pub refusal_run : (m : Meaning) (told : Option (List ℕ
     → Option (List ℕ))) (name : List ℕ) (refusal : FileRefusal) (r : Result (Unit {0}) Stopped) (status : Status) (before after : Option (List ℕ))
     → IfSome told (λ files. script_outcome files name ≡ Err refusal)
-        → status ≡ line_status FilesRefused r → Written (refused_line refusal) r before after
+    → status ≡ line_status FilesRefused r → Written (refused_line refusal) r before after
     → IfSome told (λ files. HasWritten (files_plan m files name) status before after)
 refusal_run m None name refusal r status before after h e w = tt
 refusal_run m (Some files) name refusal r status before after h e w =
@@ -130,7 +142,7 @@ usage_run m told words r status before after h e w =
 -- A run that wrote so, and failed only where a device did, ends as its plan does where none did.
 pub complete : (p : Plan) (status : Status) (before after : Option (List ℕ)) (reads reads' writes writes' : ℕ)
     → HasWritten p status before after → ReadCause status reads reads' before after
-        → WriteCause status writes writes' → IsComplete p status reads reads' writes writes'
+    → WriteCause status writes writes' → IsComplete p status reads reads' writes writes'
 complete p Done before after r r' w w' h c d = λ _ _. inl (sym h.ends)
 complete p SomeRefused before after r r' w w' h c d = λ _ _. inl (sym h.ends)
 complete p Usage before after r r' w w' h c d = λ _ _. inl (sym h.ends)
@@ -141,7 +153,7 @@ complete p NoMemory before after r r' w w' h c d = λ _ _. inr refl
 
 pub complete_told : (told : Option Plan) (status : Status) (before after : Option (List ℕ)) (reads reads' writes writes' : ℕ)
     → IfSome told (λ p. HasWritten p status before after)
-        → ReadCause status reads reads' before after → WriteCause status writes writes'
+    → ReadCause status reads reads' before after → WriteCause status writes writes'
     → IfSome told (λ p. IsComplete p status reads reads' writes writes')
 complete_told None status before after r r' w w' h c d = tt
 complete_told (Some p) status before after r r' w w' h c d =

@@ -15,7 +15,7 @@ refused name fault at = record { name = name; fault = fault; at = at }
 abbrev pub utf8_outcome : List ℕ → List ℕ → Result (List ℕ) FileRefusal
 utf8_outcome name text =
     if nat_lt (utf8_valid_len text) (length text)
-        then Err (refused name (codes "NotUtf8") (utf8_valid_len text))
+    then Err (refused name (codes "NotUtf8") (utf8_valid_len text))
     else Ok text
 
 -- The script of this name: there, at most 16,777,216 bytes long, and UTF-8.
