@@ -34,18 +34,27 @@ ends_parts true true h = (refl, refl)
 ends_parts true false h = absurd (cc)
 ends_parts false b h = absurd (cc)
 
-lacks_code : (row : Row) (end code : ℕ) → leb (row.first + count row.bytes) end ≡ true → end ≤ code → has_code row code ≡ false
+lacks_code : (row : Row) (end code : ℕ) → leb (row.first + count row.bytes) end ≡ true → end ≤ code
+    → has_code row code ≡ false
 lacks_code row end code h k = grind (arith, nat_tests)
 
-no_code_above : (end : ℕ) (rows : List Row) (code : ℕ) → ends_below end rows ≡ true → end ≤ code → spelling_in rows code ≡ None
+no_code_above : (end : ℕ) (rows : List Row) (code : ℕ) → ends_below end rows ≡ true → end ≤ code
+    → spelling_in rows code ≡ None
 no_code_above end [] code h k = refl
 no_code_above end (row ∷ rows) code h k =
     let p = ends_parts (leb (row.first + count row.bytes) end) (ends_below end rows) h in
-    ap (λ t. cond t (Some (sequence row.bytes (code - row.first))) (spelling_in rows code)) (lacks_code row end code p.0 k) ∙ no_code_above end rows code p.1 k
+    ap (λ t. cond t (Some (sequence row.bytes (code - row.first))) (spelling_in rows code))
+    (lacks_code row end code p.0 k) ∙ no_code_above end rows code p.1 k
 
-latin1_bmp : (code : ℕ) → 0x10000 ≤ code → spell SetLatin1 code ≡ None
-unfolding spell
-latin1_bmp code h = no_code_above 0x10000 (rows SetLatin1) code refl h
+-- A code point that rows have is below their end.
+pub below_end : (end : ℕ) (rows : List Row) (code : ℕ) → ends_below end rows ≡ true
+    → is_some (spelling_in rows code) ≡ true → code < end
+below_end end rows code h k =
+    elim (cases_lt code end) [
+      | inl l ↦ l
+      | inr l ↦ let n =
+          no_code_above end rows code h l in absurd (false≢true (sym (ap is_some n) ∙ k))
+    ]
 
 pub some_is : (o : Option (List ℕ)) → is_some o ≡ true → IsSome o
 some_is o h = h
@@ -76,7 +85,8 @@ low_in Utf16 class code h = low_class class code h
 low_in Utf32 class code h = low_class class code h
 
 -- One above 7F of latin1: all classes but Ascii have it.
-latin1_class : (class : Repertoire) (code : ℕ) → is_some (spell SetLatin1 code) ≡ true → 0x80 ≤ code → code < 0x10000 → Has class code ↔ (1 ≤ rank class)
+latin1_class : (class : Repertoire) (code : ℕ) → is_some (spell SetLatin1 code) ≡ true → 0x80 ≤ code
+    → code < 0x10000 → Has class code ↔ (1 ≤ rank class)
 latin1_class Ascii code h k l = ((λ a. absurd (omega arith)), (λ b. absurd (omega arith)))
 latin1_class Latin1 code h k l = ((λ a. omega arith), (λ b. h))
 latin1_class Bmp code h k l = ((λ a. omega arith), (λ b. l))
@@ -84,41 +94,55 @@ latin1_class Unicode code h k l = ((λ a. omega arith), (λ b. tt))
 latin1_class Bytes code h k l = ((λ a. omega arith), (λ b. tt))
 
 pub latin1_below : (code : ℕ) → is_some (spell SetLatin1 code) ≡ true → code < 0x10000
-latin1_below code h =
-    elim (cases_lt code 0x10000) [
-      | inl l ↦ l
-      | inr l ↦ let n = latin1_bmp code l in absurd (false≢true (sym (ap is_some n) ∙ h))
-    ]
+unfolding spell
+latin1_below code h = below_end 0x10000 (rows SetLatin1) code refl h
 
-pub latin1_classes : (class : Repertoire) (code : ℕ) → is_some (spell SetLatin1 code) ≡ true → 0x80 ≤ code → Has class code ↔ (1 ≤ rank class)
+pub latin1_classes : (class : Repertoire) (code : ℕ) → is_some (spell SetLatin1 code) ≡ true
+    → 0x80 ≤ code → Has class code ↔ (1 ≤ rank class)
 latin1_classes class code h k = latin1_class class code h k (latin1_below code h)
 
 -- A loop over the characters
 
-pub rest_behind : (start : ℕ) (text : List ℕ) → take (length text - start) (drop start text) ≡ drop start text
-rest_behind start text = ap (λ n. take n (drop start text)) (sym (length-drop start text)) ∙ take-length (drop start text)
+pub rest_behind : (start : ℕ) (text : List ℕ)
+    → take (length text - start) (drop start text) ≡ drop start text
+rest_behind start text =
+    ap (λ n. take n (drop start text)) (sym (length-drop start text))
+    ∙ take-length (drop start text)
 
 -- A class has the whole text exactly where it has a lower class and what is left.
 abbrev pub HasPassed : Charset → List ℕ → Repertoire → List ℕ → Type 0
-HasPassed set text class rest = (other : Repertoire) → HasAll set other (chars set text) ↔ ((rank class ≤ rank other) × HasAll set other (chars set rest))
+HasPassed set text class rest =
+    (other : Repertoire) → HasAll set other (chars set text)
+    ↔ ((rank class ≤ rank other) × HasAll set other (chars set rest))
 
-pub HasPassed_step : (set : Charset) (text rest : List ℕ) (code len : ℕ) (class step joined : Repertoire) → HasPassed set text class rest → chars set rest ≡ code ∷ chars set (drop len rest) → ((other : Repertoire) → HasIn set other code ↔ (rank step ≤ rank other)) → rank joined ≡ max (rank class) (rank step) → HasPassed set text joined (take (length rest - len) (drop len rest))
+pub HasPassed_step : (set : Charset) (text rest : List ℕ) (code len : ℕ)
+    (class step joined : Repertoire)
+    → HasPassed set text class rest → chars set rest ≡ code ∷ chars set (drop len rest)
+    → ((other : Repertoire) → HasIn set other code ↔ (rank step ≤ rank other))
+    → rank joined ≡ max (rank class) (rank step)
+    → HasPassed set text joined (take (length rest - len) (drop len rest))
 HasPassed_step set text rest code len class step joined passed e s m other =
     let b = rest_behind len rest in
-    let e' : chars set rest ≡ code ∷ chars set (take (length rest - len) (drop len rest)) = e ∙ ap (λ t. code ∷ chars set t) (sym b) in
+    let e' : chars set rest ≡ code ∷ chars set (take (length rest - len) (drop len rest)) =
+    e ∙ ap (λ t. code ∷ chars set t) (sym b) in
     let p = passed other in (
-      (λ h. let q = p.0 h in let r = subst (HasAll set other) e' q.1 in let u = q.0 in let v = (s other).0 r.0 in (omega arith, r.1)),
-      (λ h. let u = h.0 in p.1 (omega arith, subst (HasAll set other) (sym e') ((s other).1 (omega arith), h.1))),
+      (λ h. let q = p.0 h in let r = subst (HasAll set other) e' q.1 in let u = q.0 in let v =
+          (s other).0 r.0 in (omega arith, r.1)),
+      (λ h. let u = h.0 in p.1
+          (omega arith, subst (HasAll set other) (sym e') ((s other).1 (omega arith), h.1))),
     )
 
 -- An answer that is no character leaves no characters.
-pub nothing : (set : Charset) (rest : List ℕ) (answer : CharAt) → HeadsChars set rest answer → (answer ≡ End) ⊎ (answer ≡ Bad) → chars set rest ≡ []
+pub nothing : (set : Charset) (rest : List ℕ) (answer : CharAt) → HeadsChars set rest answer
+    → (answer ≡ End) ⊎ (answer ≡ Bad) → chars set rest ≡ []
 nothing set rest (Char code len) h (inl e) = absurd (cc)
 nothing set rest (Char code len) h (inr e) = absurd (cc)
 nothing set rest End h e = h.0
 nothing set rest Bad h e = h.0
 
-pub HasPassed_end : (set : Charset) (text rest : List ℕ) (class : Repertoire) (answer : CharAt) → HasPassed set text class rest → HeadsChars set rest answer → (answer ≡ End) ⊎ (answer ≡ Bad) → IsRepertoire set text class
+pub HasPassed_end : (set : Charset) (text rest : List ℕ) (class : Repertoire) (answer : CharAt)
+    → HasPassed set text class rest → HeadsChars set rest answer → (answer ≡ End) ⊎ (answer ≡ Bad)
+    → IsRepertoire set text class
 HasPassed_end set text rest class answer passed h e =
     let n = nothing set rest answer h e in
     record {
@@ -126,11 +150,13 @@ HasPassed_end set text rest class answer passed h e =
       least = λ other k. ((passed other).0 k).0;
     }
 
-all_low : (set : Charset) (codes : List ℕ) → ((k : ℕ) → get_or codes k 0 < 0x80) → HasAll set Ascii codes
+all_low : (set : Charset) (codes : List ℕ) → ((k : ℕ) → get_or codes k 0 < 0x80)
+    → HasAll set Ascii codes
 all_low set [] h = tt
 all_low set (code ∷ codes) h = (low_in set Ascii code (h 0), all_low set codes (λ k. h (suc k)))
 
-pub IsPlain_repertoire : (set : Charset) (text : List ℕ) → IsPlain set text → IsRepertoire set text Ascii
+pub IsPlain_repertoire : (set : Charset) (text : List ℕ) → IsPlain set text
+    → IsRepertoire set text Ascii
 IsPlain_repertoire set text p = record {
   has_all = subst (HasAll set Ascii) (sym p.its_chars) (all_low set text p.below);
   least = λ other h. omega arith;

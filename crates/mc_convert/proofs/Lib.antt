@@ -1,4 +1,6 @@
 pub mod Classes
 pub mod PlainTexts
 pub mod Conversions
+pub mod CodePoints
 pub mod Lossless
+pub mod Caps

@@ -31,7 +31,8 @@ binary_plain : SpellsLow Binary
 unfolding spell
 binary_plain b h = grind (arith, nat_tests)
 
-spelled_low : (set : Charset) (text : List ℕ) → SpellsLow set → ((k : ℕ) → get_or text k 0 < 0x80) → Spells set text text
+spelled_low : (set : Charset) (text : List ℕ) → SpellsLow set → ((k : ℕ) → get_or text k 0 < 0x80)
+    → Spells set text text
 unfolding spell_all
 spelled_low set [] h k = refl
 spelled_low set (b ∷ bytes) h k = rw (h b (k 0), spelled_low set bytes h (λ i. k (suc i)))
@@ -40,16 +41,28 @@ spelled_low set (b ∷ bytes) h k = rw (h b (k 0), spelled_low set bytes h (λ i
 abbrev pub Decodes : Type 0
 Decodes = (set : Charset) (codes text : List ℕ) → Spells set codes text → chars set text ≡ codes
 
-plain_of : Decodes → (set : Charset) (text : List ℕ) → SpellsLow set → ((k : ℕ) → get_or text k 0 < 0x80) → IsPlain set text
-plain_of d set text h k = let s = spelled_low set text h k in record { spelled = s; its_chars = d set text text s; below = k }
+plain_of : Decodes → (set : Charset) (text : List ℕ) → SpellsLow set
+    → ((k : ℕ) → get_or text k 0 < 0x80) → IsPlain set text
+plain_of d set text h k =
+    let s = spelled_low set text h k in record
+    { spelled = s; its_chars = d set text text s; below = k }
 
-low_plain : Decodes → (set : Charset) (text : List ℕ) → (set ≡ Latin1) ⊎ ((set ≡ Ascii) ⊎ ((set ≡ Utf8mb3) ⊎ ((set ≡ Utf8mb4) ⊎ (set ≡ Binary)))) → ((k : ℕ) → get_or text k 0 < 0x80) → IsPlain set text
-low_plain d set text (inl e) k = subst (λ (s : Charset). IsPlain s text) (sym e) (plain_of d Latin1 text latin1_plain k)
-low_plain d set text (inr (inl e)) k = subst (λ (s : Charset). IsPlain s text) (sym e) (plain_of d Ascii text ascii_plain k)
-low_plain d set text (inr (inr (inl e))) k = subst (λ (s : Charset). IsPlain s text) (sym e) (plain_of d Utf8mb3 text utf8mb3_plain k)
-low_plain d set text (inr (inr (inr (inl e)))) k = subst (λ (s : Charset). IsPlain s text) (sym e) (plain_of d Utf8mb4 text utf8mb4_plain k)
-low_plain d set text (inr (inr (inr (inr e)))) k = subst (λ (s : Charset). IsPlain s text) (sym e) (plain_of d Binary text binary_plain k)
+low_plain : Decodes → (set : Charset) (text : List ℕ)
+    → (set ≡ Latin1) ⊎ ((set ≡ Ascii) ⊎ ((set ≡ Utf8mb3) ⊎ ((set ≡ Utf8mb4) ⊎ (set ≡ Binary))))
+    → ((k : ℕ) → get_or text k 0 < 0x80) → IsPlain set text
+low_plain d set text (inl e) k =
+    subst (λ (s : Charset). IsPlain s text) (sym e) (plain_of d Latin1 text latin1_plain k)
+low_plain d set text (inr (inl e)) k =
+    subst (λ (s : Charset). IsPlain s text) (sym e) (plain_of d Ascii text ascii_plain k)
+low_plain d set text (inr (inr (inl e))) k =
+    subst (λ (s : Charset). IsPlain s text) (sym e) (plain_of d Utf8mb3 text utf8mb3_plain k)
+low_plain d set text (inr (inr (inr (inl e)))) k =
+    subst (λ (s : Charset). IsPlain s text) (sym e) (plain_of d Utf8mb4 text utf8mb4_plain k)
+low_plain d set text (inr (inr (inr (inr e)))) k =
+    subst (λ (s : Charset). IsPlain s text) (sym e) (plain_of d Binary text binary_plain k)
 
-pub plain_tells : (answer : Bool) (set : Charset) (text : List ℕ) → Decodes → (set ≡ Latin1) ⊎ ((set ≡ Ascii) ⊎ ((set ≡ Utf8mb3) ⊎ ((set ≡ Utf8mb4) ⊎ (set ≡ Binary)))) → MatchBool answer (IsAscii text) (IsNotAscii text) → OnTrue answer (IsPlain set text)
+pub plain_tells : (answer : Bool) (set : Charset) (text : List ℕ) → Decodes
+    → (set ≡ Latin1) ⊎ ((set ≡ Ascii) ⊎ ((set ≡ Utf8mb3) ⊎ ((set ≡ Utf8mb4) ⊎ (set ≡ Binary))))
+    → MatchBool answer (IsAscii text) (IsNotAscii text) → OnTrue answer (IsPlain set text)
 plain_tells true set text d e h = low_plain d set text e h
 plain_tells false set text d e h = tt

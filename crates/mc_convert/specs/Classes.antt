@@ -1,4 +1,4 @@
--- Repertoires: classes of characters in a chain, and the least one that has all characters of a text. MySQL 8.0 manual, 10.2.1.
+-- Repertoires, a chain of classes of characters: MySQL 8.0 manual, 10.2.1.
 use Rattle.std.specs.Prelude.{ℕ, ◌<◌, ◌≤◌, List, [], ◌∷◌, IsSome}
 use Rattle.mc_charset.specs.declared.charset.Charset.{Charset}
 use Rattle.mc_charset.specs.declared.charset.Charset.TheVariants.{Latin1 as SetLatin1, Ascii as SetAscii, Utf8mb3, Utf8mb4, Ucs2, Utf16, Utf32, Binary}
@@ -14,7 +14,8 @@ rank Bmp = 2
 rank Unicode = 3
 rank Bytes = 4
 
--- The class has the character: Ascii those below U+0080, Latin1 the 256 of latin1, Bmp those up to U+FFFF, the others all.
+-- The class has the character: Ascii those below U+0080, Latin1 the 256 of latin1,
+-- Bmp those up to U+FFFF, the others all.
 abbrev pub Has : Repertoire → ℕ → Type 0
 Has Ascii code = code < 0x80
 Has Latin1 code = IsSome (spell SetLatin1 code)
@@ -22,7 +23,8 @@ Has Bmp code = code < 0x10000
 Has Unicode code = Unit
 Has Bytes code = Unit
 
--- The class has this character of a text in the set. Of bytes, Bytes has all and the other classes those below 80.
+-- The class has this character of a text in the set.
+-- Of bytes, Bytes has all and the other classes those below 80.
 abbrev pub HasIn : Charset → Repertoire → ℕ → Type 0
 HasIn Binary Bytes byte = Unit
 HasIn Binary class byte = byte < 0x80

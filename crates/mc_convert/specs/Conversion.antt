@@ -10,7 +10,8 @@ abbrev pub is_binary : Charset → Bool
 is_binary Binary = true
 is_binary set = false
 
--- The set `to` has this character of a text in `from`. Of the bytes of binary it has those below 80, as ASCII.
+-- The set `to` has this character of a text in `from`.
+-- Of the bytes of binary it has those below 80, as ASCII.
 abbrev pub fits : Charset → Charset → ℕ → Bool
 fits from to code = (not (is_binary from) || nat_lt code 0x80) && is_some (spell to code)
 
@@ -18,13 +19,16 @@ fits from to code = (not (is_binary from) || nat_lt code 0x80) && is_some (spell
 abbrev pub stand_in : Charset → Charset → ℕ → ℕ
 stand_in from to code = if fits from to code then code else 0x3F
 
--- The converted text: to binary the bytes stay; to other sets each character is itself there or `?`.
+-- The converted text: to binary the bytes stay; to other sets each character is itself or `?`.
 abbrev pub IsConverted : Charset → Charset → List ℕ → List ℕ → Type 0
-IsConverted from to text converted = MatchBool (is_binary to) (converted ≡ text) (Spells to (map (stand_in from to) (chars from text)) converted)
+IsConverted from to text converted =
+    MatchBool (is_binary to) (converted ≡ text)
+    (Spells to (map (stand_in from to) (chars from text)) converted)
 
 -- `to` has each character of the text.
 abbrev pub AllFit : Charset → Charset → List ℕ → Type 0
-AllFit from to text = (k : ℕ) → k < length (chars from text) → fits from to (slice_index (chars from text) k) ≡ true
+AllFit from to text =
+    (k : ℕ) → k < length (chars from text) → fits from to (slice_index (chars from text) k) ≡ true
 
 -- No character is lost.
 abbrev pub IsLossless : Charset → Charset → List ℕ → Type 0
@@ -54,7 +58,8 @@ unit_len set = 1
 
 -- The bytes behind so many zero bytes that their number is a multiple of the set's unit.
 abbrev pub padded : Charset → List ℕ → List ℕ
-padded to bytes = take ((unit_len to - length bytes % unit_len to) % unit_len to) (0 ∷ 0 ∷ 0 ∷ []) ++ bytes
+padded to bytes =
+    take ((unit_len to - length bytes % unit_len to) % unit_len to) (0 ∷ 0 ∷ 0 ∷ []) ++ bytes
 
 -- The padded bytes, or nothing exactly where they are malformed.
 abbrev pub IsReinterpreted : Charset → List ℕ → Option (List ℕ) → Type 0

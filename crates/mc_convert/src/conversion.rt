@@ -12,7 +12,8 @@ use std::alloc::Global;
 const QUESTION_MARK: u32 = 0x3F;
 
 /// A well-formed text in another set: each character there, or `?` where that set lacks it.
-/// To binary the bytes stay; from binary a byte below 80 is that character and any other one becomes `?`.
+/// To binary the bytes stay; from binary a byte below 80 is that character and any other one
+/// becomes `?`.
 pub fn convert(alloc: Global, from: Charset, to: Charset, text: &[u8]) -> Result<Text, NoMemory>
     requires { IsWellFormed from text.now }
     ensures { IfOk result (λ converted. IsConverted from to text.now converted) }
@@ -41,7 +42,8 @@ pub(crate) fn keeps_bytes(from: Charset, to: Charset, text: &[u8]) -> bool
 
 /// Converts one character after the other.
 fn convert_each(alloc: Global, from: Charset, to: Charset, text: &[u8]) -> Result<Text, NoMemory>
-    ensures { IfOk result (λ converted. Spells to (map (stand_in from to) (chars from text.now)) converted) }
+    ensures { IfOk result
+        (λ converted. Spells to (map (stand_in from to) (chars from text.now)) converted) }
 {
     let mut converted = Text::new(alloc);
     let mut rest = text;
@@ -58,7 +60,8 @@ fn convert_each(alloc: Global, from: Charset, to: Charset, text: &[u8]) -> Resul
 
 /// Appends the character itself where the set has it, else `?`.
 fn put_stand_in(from: Charset, to: Charset, code: u32, out: &mut Text) -> Result<(), NoMemory>
-    ensures ok { OnOk result (option_map (λ front. out.old ++ front) (spell to (stand_in from to code)) ≡ Some out.new) }
+    ensures ok { OnOk result
+        (option_map (λ front. out.old ++ front) (spell to (stand_in from to code)) ≡ Some out.new) }
     ensures err { OnErr result (out.new ≡ out.old) }
 {
     if is_binary(from) && code >= 0x80 {
@@ -73,7 +76,8 @@ fn put_stand_in(from: Charset, to: Charset, code: u32, out: &mut Text) -> Result
 
 /// Appends `?`, which each set has.
 fn put_question_mark(to: Charset, out: &mut Text) -> Result<(), NoMemory>
-    ensures ok { OnOk result (option_map (λ front. out.old ++ front) (spell to 0x3F) ≡ Some out.new) }
+    ensures ok { OnOk result
+        (option_map (λ front. out.old ++ front) (spell to 0x3F) ≡ Some out.new) }
     ensures err { OnErr result (out.new ≡ out.old) }
 {
     match put_char(to, QUESTION_MARK, out) {

@@ -42,7 +42,8 @@ pub fn convert_exact(
 fn first_lost(from: Charset, to: Charset, text: &[u8]) -> Option<u32>
     requires well_formed { IsWellFormed from text.now }
     requires below_4_gib { length text.now < 2 ^ 32 }
-    ensures { MatchOption result (IsLossless from to text.now) (λ place. IsFirstLost from to text.now place) }
+    ensures { MatchOption result (IsLossless from to text.now)
+        (λ place. IsFirstLost from to text.now place) }
 {
     if is_binary(to) {
         return None;
@@ -56,7 +57,8 @@ fn first_lost(from: Charset, to: Charset, text: &[u8]) -> Option<u32>
 /// The place of the first character that the set lacks.
 fn first_unfit(from: Charset, to: Charset, text: &[u8]) -> Option<u32>
     requires { length text.now < 2 ^ 32 }
-    ensures { MatchOption result (AllFit from to text.now) (λ place. IsFirstUnfit from to text.now place) }
+    ensures { MatchOption result (AllFit from to text.now)
+        (λ place. IsFirstUnfit from to text.now place) }
 {
     let mut place = 0;
     let mut rest = text;

@@ -1,17 +1,37 @@
-ghost use Rattle.mc_charset.specs.Chars.{IsWellFormed};
+ghost use Rattle.mc_charset.specs.Chars.{spell, chars, IsWellFormed};
 ghost use Rattle.mc_charset.specs.declared.charset.Charset.{Charset};
 ghost use Rattle.mc_convert.specs.Classes.{HasIn, IsRepertoire, cap_of, rank};
-ghost use Rattle.mc_convert.specs.Conversion.{IsLossless};
+ghost use Rattle.mc_convert.specs.Conversion.{IsConverted, IsFirstLost, IsLossless, is_binary};
 ghost use Rattle.mc_convert.specs.declared.repertoire.Repertoire.{Repertoire};
-ghost use Rattle.std.specs.Prelude.{◌≤◌, ℕ, List};
+ghost use Rattle.std.specs.Prelude.{◌≡◌, ◌≤◌, ℕ, List, IsSome, false};
 
 use mc_charset::chars_law;
 
-/// The law of conversion: a text whose repertoire is at most the cap of a set loses no character to it.
-/// So `convert_exact` converts it, memory aside. MySQL 8.0 manual, 10.8.4.
+/// The laws of repertoires: the classes form a chain, in which each class has what the earlier
+/// ones have; the cap of a set is the least class that has all of its characters.
+/// MySQL 8.0 manual, 10.2.1.
+pub fn repertoire_law()
+    ensures chain { (set : Charset) (class other : Repertoire) (code : ℕ)
+        → rank class ≤ rank other → HasIn set class code → HasIn set other code }
+    ensures cap_has_all { (set : Charset) (code : ℕ)
+        → IsSome (spell set code) → HasIn set (cap_of set) code }
+    ensures cap_is_least { (set : Charset) (other : Repertoire)
+        → ((code : ℕ) → IsSome (spell set code) → HasIn set other code)
+        → rank (cap_of set) ≤ rank other }
+{}
+
+/// The laws of conversion: a text whose repertoire is at most the cap of a set loses no character
+/// to it; a text that loses none has no first lost character, and once converted it has the same
+/// characters. So `convert_exact` refuses no text within the cap. MySQL 8.0 manual, 10.2.1.
 pub fn conversion_law()
-    ensures { (from to : Charset) (text : List ℕ) (class : Repertoire)
-        → IsWellFormed from text → IsRepertoire from text class → rank class ≤ rank (cap_of to) → IsLossless from to text }
+    ensures within_cap { (from to : Charset) (text : List ℕ) (class : Repertoire)
+        → IsWellFormed from text → IsRepertoire from text class → rank class ≤ rank (cap_of to)
+        → IsLossless from to text }
+    ensures none_lost { (from to : Charset) (text : List ℕ) (place : ℕ)
+        → IsLossless from to text → IsFirstLost from to text place → ⊥ }
+    ensures same_chars { (from to : Charset) (text converted : List ℕ)
+        → is_binary to ≡ false → IsLossless from to text → IsConverted from to text converted
+        → chars to converted ≡ chars from text }
 {
     chars_law();
 }

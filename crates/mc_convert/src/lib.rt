@@ -12,6 +12,6 @@ mod tests;
 
 pub use conversion::convert;
 pub use exact::{ConvertFault, convert_exact};
-pub use laws::conversion_law;
+pub use laws::{conversion_law, repertoire_law};
 pub use padding::reinterpret;
 pub use repertoire::{Repertoire, cap, repertoire_of};

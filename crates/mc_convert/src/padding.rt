@@ -7,7 +7,8 @@ use std::alloc::Global;
 
 const ZEROS: [u8; 3] = [0, 0, 0];
 
-/// The bytes as a text of a set, behind zero bytes up to a multiple of 2 for ucs2 and utf16 and of 4 for utf32.
+/// The bytes as a text of a set, behind zero bytes up to a multiple of 2 for ucs2 and utf16
+/// and of 4 for utf32.
 /// `None` exactly where these are malformed. MySQL 8.0 manual, 12.10.
 pub fn reinterpret(alloc: Global, to: Charset, bytes: &[u8]) -> Result<Option<Text>, NoMemory>
     ensures { IfOk result (λ answer. IsReinterpreted to bytes.now answer) }

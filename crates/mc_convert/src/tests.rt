@@ -3,7 +3,7 @@ use mc_base::Text;
 use mc_charset::{Charset, PutChar, char_count, char_start, is_well_formed, put_char};
 use std::alloc::Global;
 
-/// The sets in the order of each row's columns.
+/// The sets in the order of the columns below.
 const SETS: [Charset; 8] = [
     Charset::Latin1,
     Charset::Ascii,
@@ -15,144 +15,119 @@ const SETS: [Charset; 8] = [
     Charset::Binary,
 ];
 
-/// A text, its repertoire, and what it is in each of the sets.
+/// A text in one set, its repertoire, and the text in each set but binary, to which the bytes stay.
 struct Row {
     why: &'static str,
     from: Charset,
     text: &'static [u8],
     class: Repertoire,
-    converted: [&'static [u8]; 8],
+    converted: [&'static [u8]; 7],
 }
 
-/// The characters U+0061, U+00E9, U+20AC, U+044F and U+1F600, as far as the set has them.
+/// U+0061.
+const ONE: [&'static [u8]; 7] = [b"a", b"a", b"a", b"a", b"\x00a", b"\x00a", b"\x00\x00\x00a"];
+
+/// U+0061 and a byte that is no character.
+const A_BYTE: [&'static [u8]; 7] = [
+    b"a?",
+    b"a?",
+    b"a?",
+    b"a?",
+    b"\x00a\x00?",
+    b"\x00a\x00?",
+    b"\x00\x00\x00a\x00\x00\x00?",
+];
+
+/// U+0061, U+00E9 and U+20AC.
+const THREE: [&'static [u8]; 7] = [
+    b"a\xE9\x80",
+    b"a??",
+    b"a\xC3\xA9\xE2\x82\xAC",
+    b"a\xC3\xA9\xE2\x82\xAC",
+    b"\x00a\x00\xE9\x20\xAC",
+    b"\x00a\x00\xE9\x20\xAC",
+    b"\x00\x00\x00a\x00\x00\x00\xE9\x00\x00\x20\xAC",
+];
+
+/// The same and U+044F.
+const FOUR: [&'static [u8]; 7] = [
+    b"a\xE9\x80?",
+    b"a???",
+    b"a\xC3\xA9\xE2\x82\xAC\xD1\x8F",
+    b"a\xC3\xA9\xE2\x82\xAC\xD1\x8F",
+    b"\x00a\x00\xE9\x20\xAC\x04\x4F",
+    b"\x00a\x00\xE9\x20\xAC\x04\x4F",
+    b"\x00\x00\x00a\x00\x00\x00\xE9\x00\x00\x20\xAC\x00\x00\x04\x4F",
+];
+
+/// The same and U+1F600.
+const FIVE: [&'static [u8]; 7] = [
+    b"a\xE9\x80??",
+    b"a????",
+    b"a\xC3\xA9\xE2\x82\xAC\xD1\x8F?",
+    b"a\xC3\xA9\xE2\x82\xAC\xD1\x8F\xF0\x9F\x98\x80",
+    b"\x00a\x00\xE9\x20\xAC\x04\x4F\x00?",
+    b"\x00a\x00\xE9\x20\xAC\x04\x4F\xD8\x3D\xDE\x00",
+    b"\x00\x00\x00a\x00\x00\x00\xE9\x00\x00\x20\xAC\x00\x00\x04\x4F\x00\x01\xF6\x00",
+];
+
+/// Those of the five characters that the set has.
 const ROWS: [Row; 8] = [
     Row {
         why: "latin1 has three",
         from: Charset::Latin1,
         text: b"a\xE9\x80",
         class: Repertoire::Latin1,
-        converted: [
-            b"a\xE9\x80",
-            b"a??",
-            b"a\xC3\xA9\xE2\x82\xAC",
-            b"a\xC3\xA9\xE2\x82\xAC",
-            b"\x00a\x00\xE9\x20\xAC",
-            b"\x00a\x00\xE9\x20\xAC",
-            b"\x00\x00\x00a\x00\x00\x00\xE9\x00\x00\x20\xAC",
-            b"a\xE9\x80",
-        ],
+        converted: THREE,
     },
     Row {
         why: "ascii has one",
         from: Charset::Ascii,
         text: b"a",
         class: Repertoire::Ascii,
-        converted: [
-            b"a",
-            b"a",
-            b"a",
-            b"a",
-            b"\x00a",
-            b"\x00a",
-            b"\x00\x00\x00a",
-            b"a",
-        ],
+        converted: ONE,
     },
     Row {
         why: "utf8mb3 has four",
         from: Charset::Utf8mb3,
         text: b"a\xC3\xA9\xE2\x82\xAC\xD1\x8F",
         class: Repertoire::Bmp,
-        converted: [
-            b"a\xE9\x80?",
-            b"a???",
-            b"a\xC3\xA9\xE2\x82\xAC\xD1\x8F",
-            b"a\xC3\xA9\xE2\x82\xAC\xD1\x8F",
-            b"\x00a\x00\xE9\x20\xAC\x04\x4F",
-            b"\x00a\x00\xE9\x20\xAC\x04\x4F",
-            b"\x00\x00\x00a\x00\x00\x00\xE9\x00\x00\x20\xAC\x00\x00\x04\x4F",
-            b"a\xC3\xA9\xE2\x82\xAC\xD1\x8F",
-        ],
+        converted: FOUR,
     },
     Row {
         why: "utf8mb4 has all five",
         from: Charset::Utf8mb4,
         text: b"a\xC3\xA9\xE2\x82\xAC\xD1\x8F\xF0\x9F\x98\x80",
         class: Repertoire::Unicode,
-        converted: [
-            b"a\xE9\x80??",
-            b"a????",
-            b"a\xC3\xA9\xE2\x82\xAC\xD1\x8F?",
-            b"a\xC3\xA9\xE2\x82\xAC\xD1\x8F\xF0\x9F\x98\x80",
-            b"\x00a\x00\xE9\x20\xAC\x04\x4F\x00?",
-            b"\x00a\x00\xE9\x20\xAC\x04\x4F\xD8\x3D\xDE\x00",
-            b"\x00\x00\x00a\x00\x00\x00\xE9\x00\x00\x20\xAC\x00\x00\x04\x4F\x00\x01\xF6\x00",
-            b"a\xC3\xA9\xE2\x82\xAC\xD1\x8F\xF0\x9F\x98\x80",
-        ],
+        converted: FIVE,
     },
     Row {
         why: "ucs2 has four",
         from: Charset::Ucs2,
         text: b"\x00a\x00\xE9\x20\xAC\x04\x4F",
         class: Repertoire::Bmp,
-        converted: [
-            b"a\xE9\x80?",
-            b"a???",
-            b"a\xC3\xA9\xE2\x82\xAC\xD1\x8F",
-            b"a\xC3\xA9\xE2\x82\xAC\xD1\x8F",
-            b"\x00a\x00\xE9\x20\xAC\x04\x4F",
-            b"\x00a\x00\xE9\x20\xAC\x04\x4F",
-            b"\x00\x00\x00a\x00\x00\x00\xE9\x00\x00\x20\xAC\x00\x00\x04\x4F",
-            b"\x00a\x00\xE9\x20\xAC\x04\x4F",
-        ],
+        converted: FOUR,
     },
     Row {
         why: "utf16 has all five",
         from: Charset::Utf16,
         text: b"\x00a\x00\xE9\x20\xAC\x04\x4F\xD8\x3D\xDE\x00",
         class: Repertoire::Unicode,
-        converted: [
-            b"a\xE9\x80??",
-            b"a????",
-            b"a\xC3\xA9\xE2\x82\xAC\xD1\x8F?",
-            b"a\xC3\xA9\xE2\x82\xAC\xD1\x8F\xF0\x9F\x98\x80",
-            b"\x00a\x00\xE9\x20\xAC\x04\x4F\x00?",
-            b"\x00a\x00\xE9\x20\xAC\x04\x4F\xD8\x3D\xDE\x00",
-            b"\x00\x00\x00a\x00\x00\x00\xE9\x00\x00\x20\xAC\x00\x00\x04\x4F\x00\x01\xF6\x00",
-            b"\x00a\x00\xE9\x20\xAC\x04\x4F\xD8\x3D\xDE\x00",
-        ],
+        converted: FIVE,
     },
     Row {
         why: "utf32 has all five",
         from: Charset::Utf32,
         text: b"\x00\x00\x00a\x00\x00\x00\xE9\x00\x00\x20\xAC\x00\x00\x04\x4F\x00\x01\xF6\x00",
         class: Repertoire::Unicode,
-        converted: [
-            b"a\xE9\x80??",
-            b"a????",
-            b"a\xC3\xA9\xE2\x82\xAC\xD1\x8F?",
-            b"a\xC3\xA9\xE2\x82\xAC\xD1\x8F\xF0\x9F\x98\x80",
-            b"\x00a\x00\xE9\x20\xAC\x04\x4F\x00?",
-            b"\x00a\x00\xE9\x20\xAC\x04\x4F\xD8\x3D\xDE\x00",
-            b"\x00\x00\x00a\x00\x00\x00\xE9\x00\x00\x20\xAC\x00\x00\x04\x4F\x00\x01\xF6\x00",
-            b"\x00\x00\x00a\x00\x00\x00\xE9\x00\x00\x20\xAC\x00\x00\x04\x4F\x00\x01\xF6\x00",
-        ],
+        converted: FIVE,
     },
     Row {
         why: "a byte from 80 on is no character",
         from: Charset::Binary,
         text: b"a\xE9",
         class: Repertoire::Bytes,
-        converted: [
-            b"a?",
-            b"a?",
-            b"a?",
-            b"a?",
-            b"\x00a\x00?",
-            b"\x00a\x00?",
-            b"\x00\x00\x00a\x00\x00\x00?",
-            b"a\xE9",
-        ],
+        converted: A_BYTE,
     },
 ];
 
@@ -174,6 +149,12 @@ fn converts_each_pair_of_sets(rt: HostRuntime) {
     for row in &ROWS {
         assert!(rt; has_class(row), "{}", row.why);
         assert!(rt; row.class.is_at_most(cap(row.from)), "{}", row.why);
+        let bytes = converted(rt.alloc(), row.from, Charset::Binary, row.text);
+        assert!(rt;
+            matches!(&bytes, Some(text) if text.as_slice() == row.text),
+            "{}",
+            row.why
+        );
         for (to, want) in SETS.iter().zip(row.converted.iter()) {
             let answer = converted(rt.alloc(), row.from, *to, row.text);
             assert!(rt;

@@ -7,10 +7,13 @@ loop-code-init c = Passed_start c.args.from c.args.to c.args.text.now
 
 pub loop-code-preserved : goal.loop-code-preserved
 loop-code-preserved c =
-    Passed_step c.args.from c.args.to c.args.text.now c.loop-code.rest.now c.loop-code.place c.in-Char.code c.in-Char.len
-    c.loop-code.invariant c.in-Char.ensures.first c.in-Char.ensures.heads.0 (sym c.is_fit.ensures ∙ c.if-not-is_fit.false)
+    Passed_step c.args.from c.args.to c.args.text.now c.loop-code.rest.now c.loop-code.place
+    c.in-Char.code c.in-Char.len
+    c.loop-code.invariant c.in-Char.ensures.first c.in-Char.ensures.heads.0
+    (sym c.is_fit.ensures ∙ c.if-not-is_fit.false)
 
 pub returns-in-End : goal.returns-in-End
 returns-in-End c =
-    Passed_end c.args.from c.args.to c.args.text.now c.loop-code.rest.now c.loop-code.place c.next_char.result
+    Passed_end c.args.from c.args.to c.args.text.now c.loop-code.rest.now c.loop-code.place
+    c.next_char.result
     c.loop-code.invariant c.next_char.ensures.heads c.in-End.is
