@@ -1,4 +1,5 @@
 ghost use Rattle.mc_charset.specs.Chars.{spell};
+ghost use Rattle.mc_charset.specs.declared.put.PutChar.TheVariants.{NoMemory as OutOfMemory};
 ghost use Rattle.std.specs.Option.{is_some, option_map};
 ghost use Rattle.std.specs.Prelude.{◌≡◌, ◌↔◌, ◌++◌, OnOk, OnErr};
 
@@ -16,6 +17,8 @@ pub enum PutChar {
 }
 
 impl From<NoMemory> for PutChar {
+    ghost from_gives = { λ _ error. error ≡ OutOfMemory };
+
     fn from(_error: NoMemory) -> PutChar {
         PutChar::NoMemory
     }
@@ -31,10 +34,8 @@ pub fn put_char(set: Charset, code: u32, out: &mut Text) -> Result<(), PutChar>
     let Some(spelling) = Spelling::of(set, code) else {
         return Err(PutChar::Unfit);
     };
-    match out.extend_from_slice(spelling.as_slice()) {
-        Ok(()) => Ok(()),
-        Err(NoMemory) => Err(PutChar::NoMemory),
-    }
+    out.extend_from_slice(spelling.as_slice())?;
+    Ok(())
 }
 
 /// Whether the set has the code point.
