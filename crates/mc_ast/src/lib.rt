@@ -5,15 +5,20 @@
 #![tactic(auto)]
 
 mod alike;
+mod copies;
 mod examples;
 mod expr;
 mod operators;
 mod statement;
+mod statement_copies;
+mod texts;
 mod trees;
 
 pub use alike::likeness_ignores_spans;
+pub use copies::copy_expr;
 pub use examples::{calls, clauses, literals_and_names, operators_group};
 pub use expr::{Expr, Form};
 pub use operators::{ArithOp, CmpOp, Cut, TrimSide};
 pub use statement::{Item, OrderItem, Statement};
+pub use statement_copies::copy_statement;
 pub use trees::{readings_have_trees, trees_are_unique};
