@@ -11,6 +11,8 @@ mod expr;
 mod operators;
 mod statement;
 mod statement_copies;
+#[cfg(test)]
+mod tests;
 mod texts;
 mod trees;
 
