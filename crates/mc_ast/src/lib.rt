@@ -1,7 +1,7 @@
 //! The trees of the statements: what a reading of the tokens means. In reading order: [`Statement`]
 //! and [`Expr`]; then `Meaning`, which says what each alternative of the grammar means, and `Trees`
-//! of `specs/`; then [`trees_are_unique`] and
-//! [`readings_have_trees`].
+//! of `specs/`; then [`trees_are_unique`] and [`readings_have_trees`]; [`copy_expr`] and
+//! [`copy_statement`] copy a tree.
 #![tactic(auto)]
 
 mod alike;
