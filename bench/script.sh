@@ -1,7 +1,7 @@
 #!/bin/bash
 # How long the proved program takes over a long script: 200,000 comparisons (about 6 MB) and
-# 400,000, beside `cat` and `sort` over the same bytes, in one run. Aim: twice the statements take
-# at most 2.2 times as long.
+# 400,000, beside `cat` and `sort` over the same bytes, the quickest of seven runs each. Aim: twice
+# the statements take at most 2.2 times as long.
 #
 #     bench/script.sh [STATEMENTS]
 set -e
@@ -18,12 +18,15 @@ make_script() { # how many statements, a file
     }' >"$2"
 }
 
-seconds() { # runs a command, and prints how many seconds it took
-    local started ended
-    started=$(date +%s%N)
-    "$@" >"$folder/out"
-    ended=$(date +%s%N)
-    awk -v ns=$((ended - started)) 'BEGIN { printf "%.3f", ns / 1e9 }'
+seconds() { # runs a command seven times, and prints how many seconds the quickest run took
+    local started took best=
+    for _ in 1 2 3 4 5 6 7; do
+        started=$(date +%s%N)
+        "$@" >"$folder/out"
+        took=$(($(date +%s%N) - started))
+        if [ -z "$best" ] || [ "$took" -lt "$best" ]; then best=$took; fi
+    done
+    awk -v ns="$best" 'BEGIN { printf "%.3f", ns / 1e9 }'
 }
 
 ratio() {
