@@ -45,7 +45,7 @@ impl<'a> WeightStream for BinWeights<'a> {
 /// The order of two texts by the weights of their characters. The bytes that they have in common in
 /// front are passed over, back to where a character begins.
 // Behind them one character of each text decides. Its bytes would do as well in every set but utf16,
-// where a surrogate pair begins with D8 to DB, below the bytes of U+E000 to U+FFFF.
+// where the first byte of a surrogate pair, 0xD8 to 0xDB, is below that of U+E000 to U+FFFF.
 pub(crate) fn compare_bin(charset: Charset, a: &[u8], b: &[u8], pad: Pad, space: u32) -> Ordering
     requires first { IsWellFormed charset a.now }
     requires second { IsWellFormed charset b.now }
