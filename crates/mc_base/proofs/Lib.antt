@@ -2,3 +2,4 @@ pub mod Contents
 pub mod PlaceLemmas
 pub mod LineLemmas
 pub mod FieldLemmas
+pub mod FirstFaultLemmas

@@ -11,3 +11,4 @@ pub mod Blanks
 pub mod Lines
 pub mod Fields
 pub mod Hex
+pub mod FirstFault
