@@ -1,73 +1,80 @@
 -- Where a string is closed: behind some bytes, at its quote.
-use Rattle.std.proofs.Common.{◌≡◌, ℕ, ◌+◌, ◌==◌, ◌&&◌, ◌||◌, not, Bool, true, false, cond, ◌⊎◌, inl, inr, List, [], ◌∷◌, ◌++◌, length, Some, refl, ap, arith}
+use Rattle.std.proofs.Common.{◌≡◌, ℕ, ◌+◌, ◌<◌, ◌==◌, Bool, true, false, cond, ◌⊎◌, inl, inr, List, [], ◌∷◌, Some, None, length, get_or, suc, refl, arith}
 use Rattle.std.proofs.lemmas.Bool.Decides.{nat_tests}
+use Rattle.std.proofs.lemmas.Option.{same_Some}
 use Rattle.mc_token.specs.Bytes.{backslash}
 use Rattle.mc_token.specs.Elements.{quote_end}
 
--- which of two it was
+-- Which of two it was.
 pub which : {A : Type 0} (b : Bool) (x y z : A) → cond b x y ≡ z
     → ((b ≡ true) × (x ≡ z)) ⊎ ((b ≡ false) × (y ≡ z))
 which true x y z h = inl (refl, h)
 which false x y z h = inr (refl, h)
 
--- These bytes are a string's behind its first quote: they end in a quote, at a place.
-pub record Closes (quote : ℕ) (before : ℕ) (bytes : List ℕ) (end : ℕ) : Type 0 where
-  pub between : List ℕ
-  pub rest : List ℕ
-  pub bytes_are : bytes ≡ between ++ quote ∷ rest
-  pub end_is : end ≡ before + length between + 1
+-- The string whose quote stands before these bytes is closed at this end. They begin at a place.
+pub record Closed (quote at : ℕ) (bytes : List ℕ) (end : ℕ) : Type 0 where
+  pub len : ℕ
+  pub place : end ≡ at + len + 1
+  pub within : len < length bytes
+  pub closes : get_or bytes len 0 ≡ quote
 
-one_more : (quote before byte : ℕ) (bytes : List ℕ) (end : ℕ)
-    → Closes quote (before + 1) bytes end → Closes quote before (byte ∷ bytes) end
-one_more quote before byte bytes end h = record {
-  between = byte ∷ h.between;
-  rest = h.rest;
-  bytes_are = ap (λ l. byte ∷ l) h.bytes_are;
-  end_is = omega (arith, h.end_is);
+closed-first : (quote at byte : ℕ) (behind : List ℕ) (end : ℕ) → (byte == quote) ≡ true
+    → Some (at + 1) ≡ Some end
+    → Closed quote at (byte ∷ behind) end
+closed-first quote at byte behind end p e = record {
+  len = 0;
+  place = omega (arith, same_Some (at + 1) end e);
+  within = omega arith;
+  closes = grind (arith, nat_tests);
 }
 
-here : (quote before byte : ℕ) (bytes : List ℕ) (end : ℕ) → byte ≡ quote → before + 1 ≡ end
-    → Closes quote before (byte ∷ bytes) end
-here quote before byte bytes end same e = record {
-  between = [];
-  rest = bytes;
-  bytes_are = ap (λ b. b ∷ bytes) same;
-  end_is = omega arith;
-}
-
-is_quote : (byte quote : ℕ) → (byte == quote) ≡ true → byte ≡ quote
-is_quote byte quote h = grind (arith, nat_tests)
-
-left_true : (a b : Bool) → (a && b) ≡ true → a ≡ true
-left_true true b h = refl
-left_true false b h = cc
-
-closes_later : (quote before : ℕ) (bytes : List ℕ) (end : ℕ)
-    → Closes quote (before + 2) bytes end → Closes quote (before + 1 + 1) bytes end
-closes_later quote before bytes end h = record {
-  between = h.between;
-  rest = h.rest;
-  bytes_are = h.bytes_are;
-  end_is = omega (arith, h.end_is);
-}
-
-pub closes : (quote before : ℕ) (bytes : List ℕ) (end : ℕ)
-    → quote_end quote before bytes ≡ Some end → Closes quote before bytes end
+closed-last : (quote at byte end : ℕ) (closing : Bool) → (byte == quote) ≡ closing
+    → quote_end quote at (byte ∷ []) ≡ Some end → Closed quote at (byte ∷ []) end
 unfolding quote_end
-closes quote before [] end h = cc
-closes quote before (byte ∷ []) end h = elim (which (byte == quote) _ _ _ h) [
-  | inl w ↦ here quote before byte [] end (is_quote byte quote w.0) cc
-  | inr w ↦ cc
-]
-closes quote before (byte ∷ next ∷ bytes) end h =
-    elim (which (byte == quote && not (next == quote)) _ _ _ h) [
-      | inl w ↦ here quote before byte (next ∷ bytes) end (is_quote byte quote (left_true
-          (byte == quote) _ w.0)) cc
-      | inr w ↦ elim (which (byte == quote || byte == backslash) _ _ _ w.1) [
-        | inl v ↦ one_more quote before byte (next ∷ bytes) end (one_more quote
-            (before + 1) next bytes end (closes_later quote before bytes end (closes quote
-            (before + 2) bytes end v.1)))
-        | inr v ↦ one_more quote before byte (next ∷ bytes) end (closes quote (before + 1)
-            (next ∷ bytes) end v.1)
-      ]
-    ]
+closed-last quote at byte end true p e = closed-first quote at byte [] end p (rw p at e)
+closed-last quote at byte end false p e = let no : None ≡ Some end = rw p at e in absurd (cc)
+
+-- the first byte and the next, by what they are
+closed-more : (quote at byte next : ℕ) (behind : List ℕ) (end : ℕ) (closing double hiding : Bool)
+    → (byte == quote) ≡ closing → (next == quote) ≡ double → (byte == backslash) ≡ hiding
+    → (quote_end quote (at + 2) behind ≡ Some end → Closed quote (at + 2) behind end)
+    → (quote_end quote (at + 1) (next ∷ behind) ≡ Some end
+    → Closed quote (at + 1) (next ∷ behind) end)
+    → quote_end quote at (byte ∷ next ∷ behind) ≡ Some end
+    → Closed quote at (byte ∷ next ∷ behind) end
+unfolding quote_end
+closed-more quote at byte next behind end true false hiding p q r skip go e =
+    closed-first quote at byte (next ∷ behind) end p (rw (p, q) at e)
+closed-more quote at byte next behind end true true hiding p q r skip go e =
+    let c = skip (rw (p, q) at e) in
+    record {
+      len = suc (suc c.len);
+      place = omega (arith, c.place);
+      within = omega (arith, c.within);
+      closes = c.closes;
+    }
+closed-more quote at byte next behind end false double true p q r skip go e =
+    let c = skip (rw (p, r) at e) in
+    record {
+      len = suc (suc c.len);
+      place = omega (arith, c.place);
+      within = omega (arith, c.within);
+      closes = c.closes;
+    }
+closed-more quote at byte next behind end false double false p q r skip go e =
+    let c = go (rw (p, r) at e) in
+    record {
+      len = suc c.len;
+      place = omega (arith, c.place);
+      within = omega (arith, c.within);
+      closes = c.closes;
+    }
+
+pub closed : (quote at : ℕ) (bytes : List ℕ) (end : ℕ) → quote_end quote at bytes ≡ Some end
+    → Closed quote at bytes end
+unfolding quote_end
+closed quote at [] end e = absurd (cc)
+closed quote at (byte ∷ []) end e = closed-last quote at byte end (byte == quote) refl e
+closed quote at (byte ∷ next ∷ behind) end e =
+    closed-more quote at byte next behind end (byte == quote) (next == quote) (byte == backslash)
+    refl refl refl (closed quote (at + 2) behind end) (closed quote (at + 1) (next ∷ behind) end) e

@@ -1,13 +1,10 @@
 -- The tokens of some bytes cover them, and no others do.
-use Rattle.std.proofs.Common.{◌≡◌, ℕ, ◌+◌, ◌-◌, ◌<◌, ◌≤◌, ◌==◌, ◌||◌, not, Bool, true, false, cond, ltb, inl, inr, List, [], ◌∷◌, ◌++◌, length, take, drop, unwrap_or, Option, Some, None, Result, Ok, Err, suc, zero, refl, ap, sym, subst, length-append, ◌∙◌, arith}
-use Rattle.std.specs.List.{position_or_len}
-use Rattle.std.proofs.lemmas.Bool.Decides.{nat_tests}
+use Rattle.std.proofs.Common.{◌≡◌, ℕ, ◌+◌, ◌-◌, ◌<◌, true, false, inl, inr, List, [], ◌∷◌, ◌++◌, length, take, drop, Option, Some, None, Result, Ok, Err, suc, zero, refl, ap, sym, subst, ◌∙◌, arith}
 use Rattle.std.proofs.Math.Seq.{take-append_seam, drop-append_seam}
 use Rattle.std.proofs.lemmas.List.{take-append-drop, length-take-le}
 use Rattle.mc_base.specs.declared.span.Span.{Span}
-use Rattle.mc_token.specs.Bytes.{is_space, begins_word, continues_word, single_quote, double_quote, equals}
-use Rattle.mc_token.specs.Elements.{quote_end}
-use Rattle.mc_token.specs.Spellings.{word_len, string_spelling, spelling_of}
+use Rattle.mc_token.specs.Bytes.{is_space}
+use Rattle.mc_token.specs.Spellings.{spelling_of}
 use Rattle.mc_token.specs.Lexemes.{lexeme_of}
 use Rattle.mc_token.specs.Tokens.{with_front, token_of, tokens_behind, tokens_in}
 use Rattle.mc_token.specs.Cover.{AreSpaces, Begins, Cover}
@@ -16,73 +13,13 @@ use Rattle.mc_token.specs.declared.lexeme.Token.{Token}
 use Rattle.mc_token.specs.declared.lexeme.LexFault.{LexFault}
 use Rattle.mc_token.specs.declared.lexeme.LexFault.TheVariants.{NoToken}
 use Rattle.mc_token.specs.declared.spelling.Spelling.{Spelling}
-use Rattle.mc_token.proofs.Closing.{which, closes}
+use Rattle.mc_token.proofs.Closing.{which}
+use Rattle.mc_token.proofs.Spellings.{spelled}
 use Rattle.mc_token.proofs.Lexing.{tokens_behind-drop}
 use Rattle.mc_token.specs.declared.spelling.Shape.{Shape}
 
 abbrev spelling_with : Shape → ℕ → Spelling
 spelling_with shape len = record { shape = shape; len = len }
-
--- The spelling has a byte, isn't longer than what is there, and doesn't begin with a space.
-record Fits (first : ℕ) (behind : List ℕ) (len : ℕ) : Type 0 where
-  positive : 0 < len
-  within : len ≤ 1 + length behind
-  no_space : is_space first ≡ false
-
-below : (p n : ℕ) → ltb p n ≡ true → p < n
-below p n h = grind (arith, nat_tests)
-
-within_by : (b : Bool) (p n : ℕ) → (b ≡ true → p < n) → unwrap_or (cond b (Some p) None) n ≤ n
-within_by true p n h = let less = h refl in omega arith
-within_by false p n h = omega arith
-
-word_len-within : (bytes : List ℕ) → word_len bytes ≤ length bytes
-word_len-within bytes =
-    let p = position_or_len (λ (byte : ℕ). not (continues_word byte)) bytes in
-    within_by (ltb p (length bytes)) p (length bytes) (λ e. below p (length bytes) e)
-
-word_is_no_space : (byte : ℕ) → begins_word byte ≡ true → is_space byte ≡ false
-word_is_no_space byte h = grind (arith, nat_tests)
-
-quote_is_no_space : (byte : ℕ) → (byte == single_quote || byte == double_quote) ≡ true
-    → is_space byte ≡ false
-quote_is_no_space byte h = grind (arith, nat_tests)
-
-equals_is_no_space : (byte : ℕ) → (byte == equals) ≡ true → is_space byte ≡ false
-equals_is_no_space byte h = grind (arith, nat_tests)
-
-string_fits : (first : ℕ) (behind : List ℕ) (found : Option ℕ) (spelling : Spelling)
-    → is_space first ≡ false → quote_end first 0 behind ≡ found
-    → string_spelling found ≡ Some spelling → Fits first behind spelling.len
-string_fits first behind None spelling no_space e h = cc
-string_fits first behind (Some end) spelling no_space e h =
-    let closed = closes first 0 behind end e in
-    let len : spelling.len ≡ 1 + end = cc in
-    let count = ap length closed.bytes_are ∙ length-append closed.between (first ∷ closed.rest) in
-    record { positive = omega arith; within = omega (arith, closed.end_is); no_space = no_space }
-
-spelling_fits : (first : ℕ) (behind : List ℕ) (spelling : Spelling)
-    → spelling_of first behind ≡ Some spelling → Fits first behind spelling.len
-unfolding spelling_of
-spelling_fits first behind spelling h = elim (which (begins_word first) _ _ _ h) [
-  | inl w ↦ let len : spelling.len ≡ 1 + word_len behind = cc in record {
-    positive = omega arith;
-    within = omega (arith, word_len-within behind);
-    no_space = word_is_no_space first w.0;
-  }
-  | inr w ↦ elim (which (first == single_quote || first == double_quote) _ _ _ w.1) [
-    | inl v ↦ string_fits first behind (quote_end first 0 behind) spelling
-        (quote_is_no_space first v.0) refl v.1
-    | inr v ↦ elim (which (first == equals) _ _ _ v.1) [
-      | inl u ↦ let len : spelling.len ≡ 1 = cc in record {
-        positive = omega arith;
-        within = omega arith;
-        no_space = equals_is_no_space first u.0;
-      }
-      | inr u ↦ cc
-    ]
-  ]
-]
 
 same_span : (a b c d : ℕ) → a ≡ c → b ≡ d
     → ◌≡◌ {A = Span} (record { start = a; end = b }) (record { start = c; end = d })
@@ -116,12 +53,12 @@ token_covers : (place first : ℕ) (bytes : List ℕ) (spelling : Spelling) (tok
     → Cover place (first ∷ bytes) tokens
 token_covers place first bytes spelling tokens (Err fault) e further h = cc
 token_covers place first bytes spelling tokens (Ok more) e further h =
-    let fits = spelling_fits first bytes spelling e in
+    let fits = spelled first bytes spelling e in
     let token = token_of place spelling (first ∷ bytes) in
     let spelled = take spelling.len (first ∷ bytes) in
     let behind = drop (spelling.len - 1) bytes in
     let same : token ∷ more ≡ tokens = cc in
-    let one : spelling.len ≡ suc (spelling.len - 1) = omega (arith, fits.positive) in
+    let one : spelling.len ≡ suc (spelling.len - 1) = omega (arith, fits.some) in
     let dropped : drop spelling.len (first ∷ bytes) ≡ behind =
     ap (λ n. drop n (first ∷ bytes)) one in
     let whole : first ∷ bytes ≡ spelled ++ behind =
@@ -145,7 +82,7 @@ token_covers place first bytes spelling tokens (Ok more) e further h =
       };
     } in
     let place_is : place + 1 + (spelling.len - 1) ≡ place + spelling.len =
-    omega (arith, fits.positive) in
+    omega (arith, fits.some) in
     let cover : Cover (place + spelling.len) behind more =
     subst (λ (p : ℕ). Cover p behind more) place_is (further more refl) in
     subst (Cover place (first ∷ bytes)) same (behind, begins, cover)
@@ -242,11 +179,11 @@ covered_token place bytes token behind h =
     let t = h.is_token in
     let at = place + length h.spaces in
     let spelling : Spelling = spelling_with t.shape (length h.spelled) in
-    let fits = spelling_fits t.first t.others spelling t.longest in
+    let fits = spelled t.first t.others spelling t.longest in
     let passed = ap (tokens_in place) h.bytes_are
     ∙ spaces_passed place h.spaces (h.spelled ++ behind) h.are_spaces
     ∙ ap (tokens_in at) t.begins in
-    let taken = token_taken at t.first t.others spelling fits.no_space t.longest fits.positive in
+    let taken = token_taken at t.first t.others spelling fits.no_space t.longest fits.some in
     let front : take (length h.spelled) (t.first ∷ t.others) ≡ h.spelled =
     ap (take (length h.spelled)) (sym t.begins) ∙ take-append_seam h.spelled behind in
     let rest : drop (length h.spelled) (t.first ∷ t.others) ≡ behind =

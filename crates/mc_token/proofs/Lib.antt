@@ -7,9 +7,11 @@ pub mod CutElements
 pub mod CutExists
 pub mod CutWhole
 pub mod Statements
+pub mod HexDigits
+pub mod Closing
+pub mod Spellings
 pub mod Lexing
 pub mod TokenLawsText
 pub mod TokenLawsCuts
 pub mod TokenLaws
-pub mod Closing
 pub mod Cover

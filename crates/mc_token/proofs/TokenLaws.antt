@@ -1,27 +1,24 @@
 -- The laws of the tokens of a statement, by what begins at a byte.
-use Rattle.std.proofs.Common.{◌≡◌, ℕ, ◌+◌, ◌-◌, ◌<◌, ◌≤◌, ◌==◌, ◌||◌, not, Bool, true, false, List, [], ◌∷◌, Option, Some, None, Result, Ok, Err, unwrap_or, position, length, take, drop, get_or, suc, zero, inl, inr, ◌⊎◌, refl, ap, sym, subst, ◌∙◌, length-take, length-drop, subst₂, arith}
+use Rattle.std.proofs.Common.{◌≡◌, ℕ, ◌+◌, ◌-◌, ◌<◌, ◌≤◌, Bool, true, false, List, [], ◌∷◌, Option, Some, None, Result, Ok, Err, length, take, drop, get_or, suc, zero, inl, inr, ◌⊎◌, refl, ap, sym, subst, ◌∙◌, length-take, length-drop, subst₂, arith}
 use Rattle.std.specs.Prelude.{slice_range, nat_le}
 use Rattle.std.specs.Str.{IsUtf8}
-use Rattle.std.proofs.lemmas.Bool.Decides.{nat_tests}
 use Rattle.std.proofs.lemmas.List.{take-take}
-use Rattle.std.proofs.lemmas.Option.{same_Some}
-use Rattle.std.proofs.lemmas.List.Quantifiers.{position-Some}
 use Rattle.mc_base.specs.declared.span.Span.{Span}
-use Rattle.mc_token.specs.Bytes.{is_space, begins_word, continues_word, single_quote, double_quote, equals}
-use Rattle.mc_token.specs.Elements.{quote_end}
-use Rattle.mc_token.specs.Spellings.{word_len, string_spelling, spelling_of}
+use Rattle.mc_token.specs.Bytes.{is_space, single_quote}
+use Rattle.mc_token.specs.Spellings.{spelling_of}
 use Rattle.mc_token.specs.Lexemes.{content, inside, lexeme_of}
 use Rattle.mc_token.specs.Tokens.{with_front, token_of, tokens_behind, tokens_in, limited, token_limit, tokens_of}
 use Rattle.mc_token.specs.TokenLaws.{AreInOrder, HasUtf8Text, HaveUtf8Texts}
-use Rattle.mc_token.specs.declared.lexeme.Symbol.TheVariants.{Eq}
 use Rattle.mc_token.specs.declared.lexeme.Token.{Token}
 use Rattle.mc_token.specs.declared.lexeme.LexFault.{LexFault}
 use Rattle.mc_token.specs.declared.lexeme.LexFault.TheVariants.{NoToken, TooManyTokens}
 use Rattle.mc_token.specs.declared.spelling.Spelling.{Spelling}
 use Rattle.mc_token.specs.declared.spelling.Shape.{Shape}
-use Rattle.mc_token.specs.declared.spelling.Shape.TheVariants.{Word, Str, Sym}
+use Rattle.mc_token.specs.declared.spelling.Shape.TheVariants.{Word, Str, National, HexString, HexNumber, Sym}
 use Rattle.mc_token.proofs.TokenLawsCuts.{AreCutsUtf8, cuts-behind, cuts-slice}
-use Rattle.mc_token.proofs.TokenLawsText.{Closed, closed, content-utf8}
+use Rattle.mc_token.proofs.TokenLawsText.{content-utf8}
+use Rattle.mc_token.proofs.Closing.{Closed}
+use Rattle.mc_token.proofs.Spellings.{IsQuoted, spelled}
 
 -- What begins at a byte
 
@@ -78,76 +75,6 @@ skip-one : (skipped at byte : ℕ) (behind : List ℕ)
 unfolding tokens_behind
 skip-one skipped at byte behind = refl
 
--- What a spelling is
-
--- The bytes of this shape are quoted, if they are a string.
-abbrev IsQuoted : Shape → ℕ → ℕ → List ℕ → Type 0
-IsQuoted Str len first behind =
-    (first < 128) × ((end : ℕ) × ((len ≡ 1 + end) × Closed first 0 behind end))
-IsQuoted other len first behind = Unit {0}
-
--- A spelling has a byte or more, and no more than there are.
-record Spelled (first : ℕ) (behind : List ℕ) (spelling : Spelling) : Type 0 where
-  some : 0 < spelling.len
-  within : spelling.len ≤ 1 + length behind
-  quoted : IsQuoted spelling.shape spelling.len first behind
-
-len-within : (bytes : List ℕ) (found : Option ℕ)
-    → position (λ byte. not (continues_word byte)) bytes ≡ found
-    → unwrap_or found (length bytes) ≤ length bytes
-len-within bytes None e = omega arith
-len-within bytes (Some len) e =
-    let found = position-Some (λ byte. not (continues_word byte)) bytes len 0 e in
-    omega (arith, found.0)
-
-spelled-word : (first : ℕ) (behind : List ℕ)
-    → Spelled first behind (record { shape = Word; len = 1 + word_len behind })
-spelled-word first behind =
-    let len = len-within behind (position (λ byte. not (continues_word byte)) behind) refl in
-    record { some = omega arith; within = omega (arith, len); quoted = tt }
-
-spelled-string : (first : ℕ) (behind : List ℕ) (found : Option ℕ) (spelling : Spelling)
-    → first < 128 → quote_end first 0 behind ≡ found
-    → string_spelling found ≡ Some spelling → Spelled first behind spelling
-spelled-string first behind None spelling low e s = absurd (cc)
-spelled-string first behind (Some end) spelling low e s =
-    let c = closed first 0 behind end e in
-    let same = same_Some (record { shape = Str; len = 1 + end }) spelling s in
-    subst (Spelled first behind) same (record {
-      some = omega arith;
-      within = omega (arith, c.place, c.within);
-      quoted = (low, (end, (refl, c)));
-    })
-
-quote-low : (first : ℕ) → (first == single_quote || first == double_quote) ≡ true → first < 128
-quote-low first quote = grind (arith, nat_tests)
-
-spelled-by : (first : ℕ) (behind : List ℕ) (spelling : Spelling) (word quote mark : Bool)
-    → begins_word first ≡ word → (first == single_quote || first == double_quote) ≡ quote
-    → (first == equals) ≡ mark
-    → spelling_of first behind ≡ Some spelling → Spelled first behind spelling
-unfolding spelling_of
-spelled-by first behind spelling true quote mark w q m e =
-    let same =
-    same_Some (record { shape = Word; len = 1 + word_len behind }) spelling (rw w at e) in
-    subst (Spelled first behind) same (spelled-word first behind)
-spelled-by first behind spelling false true mark w q m e =
-    spelled-string first behind (quote_end first 0 behind) spelling
-    (quote-low first q) refl (rw (w, q) at e)
-spelled-by first behind spelling false false true w q m e =
-    let same = same_Some (record { shape = Sym Eq; len = 1 }) spelling (rw (w, q, m) at e) in
-    let one : Spelled first behind (record { shape = Sym Eq; len = 1 }) =
-    record { some = omega arith; within = omega arith; quoted = tt } in
-    subst (Spelled first behind) same one
-spelled-by first behind spelling false false false w q m e =
-    let no : None ≡ Some spelling = rw (w, q, m) at e in absurd (cc)
-
-spelled : (first : ℕ) (behind : List ℕ) (spelling : Spelling)
-    → spelling_of first behind ≡ Some spelling → Spelled first behind spelling
-spelled first behind spelling e =
-    spelled-by first behind spelling (begins_word first)
-    (first == single_quote || first == double_quote) (first == equals) refl refl refl e
-
 -- Their order
 
 -- A bound farther in front is a bound too.
@@ -192,13 +119,21 @@ order zero at (byte ∷ behind) tokens within e =
 
 -- Their texts
 
--- between the quotes
-inside-quotes : (first len : ℕ) (behind : List ℕ) → len < length behind
-    → inside (first ∷ take (suc len) behind) ≡ take len behind
-inside-quotes first len behind within =
-    let count : length (first ∷ take (suc len) behind) - 2 ≡ len =
-    omega (arith, length-take (suc len) behind) in
-    ap (λ n. take n (take (suc len) behind)) count ∙ take-take len (suc len) behind (omega arith)
+-- between the quotes, behind one byte
+inside-one : (first len : ℕ) (bytes : List ℕ) → len < length bytes
+    → inside 1 (first ∷ take (suc len) bytes) ≡ take len bytes
+inside-one first len bytes within =
+    let count : length (first ∷ take (suc len) bytes) - 1 - 1 ≡ len =
+    omega (arith, length-take (suc len) bytes) in
+    ap (λ n. take n (take (suc len) bytes)) count ∙ take-take len (suc len) bytes (omega arith)
+
+-- and behind two
+inside-two : (first quote len : ℕ) (bytes : List ℕ) → len < length bytes
+    → inside 2 (first ∷ quote ∷ take (suc len) bytes) ≡ take len bytes
+inside-two first quote len bytes within =
+    let count : length (first ∷ quote ∷ take (suc len) bytes) - 1 - 2 ≡ len =
+    omega (arith, length-take (suc len) bytes) in
+    ap (λ n. take n (take (suc len) bytes)) count ∙ take-take len (suc len) bytes (omega arith)
 
 text-string : (first : ℕ) (behind : List ℕ) (end : ℕ) → first < 128 → Closed first 0 behind end
     → AreCutsUtf8 (first ∷ behind)
@@ -210,20 +145,44 @@ text-string first behind end low c cuts =
     let closing : get_or behind (0 + c.len) 0 ≡ first =
     ap (λ n. get_or behind n 0) last ∙ c.closes in
     let utf8 = cuts 0 c.len (omega (arith, c.within)) low (omega arith) in
-    subst (λ n. IsUtf8 (content first (inside (first ∷ take n behind)))) (sym place)
-    (subst (λ text. IsUtf8 (content first text)) (sym (inside-quotes first c.len behind c.within))
+    subst (λ n. IsUtf8 (content first (inside 1 (first ∷ take n behind)))) (sym place)
+    (subst (λ text. IsUtf8 (content first text)) (sym (inside-one first c.len behind c.within))
     (content-utf8 first (take c.len behind) low utf8))
+
+-- the quote of a national string, and what is behind it
+text-national : (first quote : ℕ) (bytes : List ℕ) (end : ℕ) → quote ≡ single_quote
+    → Closed single_quote 0 bytes end → AreCutsUtf8 (first ∷ quote ∷ bytes)
+    → HasUtf8Text (lexeme_of National (first ∷ quote ∷ take end bytes))
+unfolding lexeme_of
+text-national first quote bytes end opens c cuts =
+    let place : end ≡ suc c.len = omega (arith, c.place) in
+    let last : get_or bytes c.len 0 < 128 = omega (arith, c.closes) in
+    let one : suc c.len ≡ 1 + c.len = omega arith in
+    let closing : get_or (quote ∷ bytes) (1 + c.len) 0 < 128 =
+    subst (λ n. get_or (quote ∷ bytes) n 0 < 128) one last in
+    let utf8 = cuts 1 c.len (omega (arith, c.within)) (omega (arith, opens)) closing in
+    subst (λ n. IsUtf8 (content single_quote (inside 2 (first ∷ quote ∷ take n bytes)))) (sym place)
+    (subst (λ text. IsUtf8 (content single_quote text))
+    (sym (inside-two first quote c.len bytes c.within))
+    (content-utf8 single_quote (take c.len bytes) (omega arith) utf8))
 
 text-of : (shape : Shape) (len first : ℕ) (behind : List ℕ) → IsQuoted shape len first behind
     → AreCutsUtf8 (first ∷ behind)
     → HasUtf8Text (lexeme_of shape (take len (first ∷ behind)))
 unfolding lexeme_of
 text-of Word len first behind q cuts = tt
+text-of HexString len first behind q cuts = tt
+text-of HexNumber len first behind q cuts = tt
 text-of (Sym symbol) len first behind q cuts = tt
 text-of Str len first behind q cuts =
     let long : len ≡ suc q.1.0 = omega (arith, q.1.1.0) in
     subst (λ n. HasUtf8Text (lexeme_of Str (take n (first ∷ behind)))) (sym long)
     (text-string first behind q.1.0 q.0 q.1.1.1 cuts)
+text-of National len first [] q cuts = let none : 0 ≡ single_quote = q.0 in absurd (omega arith)
+text-of National len first (quote ∷ bytes) q cuts =
+    let long : len ≡ suc (suc q.1.0) = omega (arith, q.1.1.0) in
+    subst (λ n. HasUtf8Text (lexeme_of National (take n (first ∷ quote ∷ bytes)))) (sym long)
+    (text-national first quote bytes q.1.0 q.0 q.1.1.1 cuts)
 
 texts-at : (at byte : ℕ) (behind : List ℕ) (tokens : List Token) → AreCutsUtf8 (byte ∷ behind)
     → ((skipped : ℕ) (more : List Token) → tokens_behind skipped (at + 1) behind ≡ Ok more

@@ -21,6 +21,12 @@ number_sign = 0x23
 abbrev pub single_quote : ℕ
 single_quote = 0x27
 
+abbrev pub left_paren : ℕ
+left_paren = 0x28
+
+abbrev pub right_paren : ℕ
+right_paren = 0x29
+
 abbrev pub star : ℕ
 star = 0x2A
 
@@ -30,11 +36,25 @@ dash = 0x2D
 abbrev pub slash : ℕ
 slash = 0x2F
 
+abbrev pub digit_zero : ℕ
+digit_zero = 0x30
+
 abbrev pub semicolon : ℕ
 semicolon = 0x3B
 
 abbrev pub backslash : ℕ
 backslash = 0x5C
+
+abbrev pub small_x : ℕ
+small_x = 0x78
+
+-- `N` or `n`.
+abbrev pub is_letter_n : ℕ → Bool
+is_letter_n byte = byte == 0x4E || byte == 0x6E
+
+-- `X` or `x`.
+abbrev pub is_letter_x : ℕ → Bool
+is_letter_x byte = byte == 0x58 || byte == small_x
 
 -- A letter or `_`.
 abbrev pub begins_word : ℕ → Bool

@@ -1,11 +1,13 @@
--- What a token says, by the bytes that spell it: MySQL 8.0 manual, 9.1.1 (table 9.1) and 9.2.
-use Rattle.std.specs.Prelude.{ℕ, ◌-◌, ◌||◌, ◌&&◌, ◌==◌, List, [], ◌∷◌, ◌++◌, map, take, drop, length, slice_index, if◌then◌else◌}
+-- What a token says, by the bytes that spell it: MySQL 8.0 manual, 9.1.1 (table 9.1), 9.1.4, 9.2 and
+-- 10.3.7.
+use Rattle.std.specs.Prelude.{ℕ, ◌-◌, ◌||◌, ◌&&◌, ◌==◌, List, [], ◌∷◌, ◌++◌, map, drop, length, slice_index, slice_range, if◌then◌else◌}
 use Rattle.std.specs.Char.{to_ascii_lowercase}
-use Rattle.mc_token.specs.Bytes.{backslash}
+use Rattle.mc_token.specs.Bytes.{single_quote, backslash}
+use Rattle.mc_token.specs.Hexadecimal.{bytes_of_digits}
 use Rattle.mc_token.specs.declared.lexeme.Lexeme.{Lexeme}
 use Rattle.mc_token.specs.declared.lexeme.Lexeme.TheVariants as lexeme
 use Rattle.mc_token.specs.declared.spelling.Shape.{Shape}
-use Rattle.mc_token.specs.declared.spelling.Shape.TheVariants.{Word, Str, Sym}
+use Rattle.mc_token.specs.declared.spelling.Shape.TheVariants.{Word, Str, National, HexString, HexNumber, Sym}
 
 -- What a backslash and the byte behind it stand for. Before `%` and `_` the backslash stays.
 abbrev pub escaped : ℕ → List ℕ
@@ -32,12 +34,15 @@ content quote (byte ∷ next ∷ behind) =
     if byte == backslash || (byte == quote && next == quote) then pair byte next ++ content quote behind
     else byte ∷ content quote (next ∷ behind)
 
--- The bytes between the first and the last.
-abbrev pub inside : List ℕ → List ℕ
-inside bytes = take (length bytes - 2) (drop 1 bytes)
+-- The bytes between so many first ones and the last.
+abbrev pub inside : ℕ → List ℕ → List ℕ
+inside first bytes = slice_range bytes first (length bytes - 1)
 
 -- The lexeme that these bytes spell.
 unfoldable pub lexeme_of : Shape → List ℕ → Lexeme
 lexeme_of Word bytes = lexeme.Word (map to_ascii_lowercase bytes)
-lexeme_of Str bytes = lexeme.Str (content (slice_index bytes 0) (inside bytes))
+lexeme_of Str bytes = lexeme.Str (content (slice_index bytes 0) (inside 1 bytes))
+lexeme_of National bytes = lexeme.National (content single_quote (inside 2 bytes))
+lexeme_of HexString bytes = lexeme.Hex (bytes_of_digits (inside 2 bytes))
+lexeme_of HexNumber bytes = lexeme.Hex (bytes_of_digits (drop 2 bytes))
 lexeme_of (Sym symbol) bytes = lexeme.Sym symbol

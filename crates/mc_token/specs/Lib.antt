@@ -4,6 +4,7 @@ pub mod Comments
 pub mod Strings
 pub mod Cut
 pub mod Statements
+pub mod Hexadecimal
 pub mod Spellings
 pub mod Lexemes
 pub mod Tokens

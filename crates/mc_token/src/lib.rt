@@ -3,6 +3,7 @@
 
 mod cutting;
 mod element;
+mod hexadecimal;
 mod laws;
 mod lexeme;
 mod reading;

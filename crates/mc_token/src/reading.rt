@@ -1,9 +1,12 @@
 ghost use Rattle.std.specs.Prelude.{◌≡◌, ◌+◌, ◌≤◌, ◌<◌, ◌++◌, ◌==◌, ◌||◌, ◌&&◌, nat_lt, map, length, slice_index, IsTrue, IfOk, OnOk};
 ghost use Rattle.std.specs.Char.{to_ascii_lowercase};
 ghost use Rattle.mc_token.specs.Bytes.{backslash};
-ghost use Rattle.mc_token.specs.Lexemes.{escaped, pair, content, lexeme_of};
+ghost use Rattle.mc_token.specs.Lexemes.{escaped, pair, content, inside, lexeme_of};
+ghost use Rattle.mc_token.specs.Hexadecimal.{bytes_of_digits};
+ghost use Rattle.mc_token.specs.Spellings.{least_len};
 
 use crate::Lexeme;
+use crate::hexadecimal::bytes_of_digits;
 use crate::spelling::Shape;
 use mc_base::{NoMemory, Text};
 use std::alloc::Global;
@@ -11,14 +14,25 @@ use std::alloc::Global;
 /// What these bytes say, which are spelled so.
 #[tactic(auto, unfolding(crate::specs::Lexemes::lexeme_of))]
 pub fn lexeme_of(alloc: Global, shape: Shape, bytes: &[u8]) -> Result<Lexeme, NoMemory>
-    requires { shape ≡ Shape.Str → 2 ≤ length bytes.now }
+    requires { least_len shape ≤ length bytes.now }
     ensures { IfOk result (λ lexeme. lexeme ≡ lexeme_of shape bytes.now) }
 {
     match shape {
         Shape::Word => Ok(Lexeme::Word(folded(alloc, bytes)?)),
-        Shape::Str => Ok(Lexeme::Str(content(alloc, bytes[0], &bytes[1..bytes.len() - 1])?)),
+        Shape::Str => Ok(Lexeme::Str(content(alloc, bytes[0], inside(1, bytes))?)),
+        Shape::National => Ok(Lexeme::National(content(alloc, b'\'', inside(2, bytes))?)),
+        Shape::HexString => Ok(Lexeme::Hex(bytes_of_digits(alloc, inside(2, bytes))?)),
+        Shape::HexNumber => Ok(Lexeme::Hex(bytes_of_digits(alloc, &bytes[2..])?)),
         Shape::Sym(symbol) => Ok(Lexeme::Sym(symbol)),
     }
+}
+
+/// The bytes between so many first ones and the last.
+fn inside(first: usize, bytes: &[u8]) -> &[u8]
+    requires { first < length bytes.now }
+    ensures { result.now ≡ inside first bytes.now }
+{
+    &bytes[first..bytes.len() - 1]
 }
 
 /// The bytes, with the letters from A to Z in lower case.

@@ -20,6 +20,7 @@ ghost use Rattle.std.specs.Prelude.{
   IfErr,
 };
 ghost use Rattle.mc_token.specs.Bytes.{is_space};
+ghost use Rattle.mc_token.specs.Spellings.{least_len};
 ghost use Rattle.mc_token.specs.Tokens.{
   with_front,
   token_of,
@@ -32,7 +33,7 @@ ghost use Rattle.mc_token.specs.Tokens.{
 
 use crate::element::is_space;
 use crate::reading::lexeme_of;
-use crate::spelling::{Shape, Spelling, spelling_of};
+use crate::spelling::{Spelling, spelling_of};
 use crate::{LexFault, Token};
 use mc_base::{List, NoMemory, Span};
 use std::alloc::Global;
@@ -43,7 +44,7 @@ const TOKEN_LIMIT: usize = 2048;
 /// The tokens of a statement that `next_statement` gave: between them stand spaces alone, and each
 /// is the longest one at its place. NoToken is at the first byte that is no space and where no
 /// token begins, or one that isn't closed. TooManyTokens comes where there are more than 2,048
-/// and no NoToken. MySQL 8.0 manual, 9.1 and 9.2.
+/// and no NoToken. MySQL 8.0 manual, 9.1, 9.2 and 10.3.7.
 #[tactic(auto, unfolding(crate::specs::Tokens::tokens_of))]
 pub fn tokens(alloc: Global, script: &[u8], statement: Span) -> Result<List<Token>, LexFault>
     requires in_order { statement.start ≤ statement.end }
@@ -123,7 +124,7 @@ fn spelling_at(bytes: &[u8], at: usize) -> Option<Spelling>
         ≡ with_front (token_of place spelling (drop at bytes.now) ∷ [])
         (tokens_in (place + spelling.len) (drop (at + spelling.len) bytes.now))) }
     ensures not_empty { IfSome result (λ spelling. 0 < spelling.len) }
-    ensures quotes { IfSome result (λ spelling. spelling.shape ≡ Shape.Str → 2 ≤ spelling.len) }
+    ensures long_enough { IfSome result (λ spelling. least_len spelling.shape ≤ spelling.len) }
     ensures within { IfSome result (λ spelling. at + spelling.len ≤ length bytes.now) }
 {
     spelling_of(bytes[at], &bytes[at + 1..])
@@ -138,7 +139,7 @@ fn token_at(
     start: u32,
 ) -> Result<Token, NoMemory>
     requires fits { start + length bytes.now < 2 ^ 32 }
-    requires quotes { spelling.shape ≡ Shape.Str → 2 ≤ spelling.len }
+    requires long_enough { least_len spelling.shape ≤ spelling.len }
     requires within { at + spelling.len ≤ length bytes.now }
     ensures { IfOk result (λ token. token ≡ token_of (start + at) spelling (drop at bytes.now)) }
 {
