@@ -1,5 +1,5 @@
 -- The tokens of some bytes cover them, and no others do.
-use Rattle.std.proofs.Common.{◌≡◌, ℕ, ◌+◌, ◌-◌, ◌<◌, true, false, inl, inr, List, [], ◌∷◌, ◌++◌, length, take, drop, Option, Some, None, Result, Ok, Err, suc, zero, refl, ap, sym, subst, ◌∙◌, arith}
+use Rattle.std.proofs.Common.{◌≡◌, ℕ, ◌+◌, ◌-◌, ◌<◌, true, false, inl, inr, List, [], ◌∷◌, ◌++◌, length, take, drop, Option, Some, None, Result, Ok, Err, suc, zero, refl, ap, sym, subst, subst₂, ◌∙◌, arith}
 use Rattle.std.proofs.Math.Seq.{take-append_seam, drop-append_seam}
 use Rattle.std.proofs.lemmas.List.{take-append-drop, length-take-le}
 use Rattle.mc_base.specs.declared.span.Span.{Span}
@@ -15,11 +15,19 @@ use Rattle.mc_token.specs.declared.lexeme.LexFault.TheVariants.{NoToken}
 use Rattle.mc_token.specs.declared.spelling.Spelling.{Spelling}
 use Rattle.mc_token.proofs.Closing.{which}
 use Rattle.mc_token.proofs.Spellings.{spelled}
+use Rattle.mc_token.proofs.SpelledFound.{Front, front}
+use Rattle.mc_token.proofs.SpelledOne.{longest, spelling_with}
+use Rattle.mc_token.specs.Spelled.{IsSpelled}
 use Rattle.mc_token.proofs.Lexing.{tokens_behind-drop}
-use Rattle.mc_token.specs.declared.spelling.Shape.{Shape}
 
-abbrev spelling_with : Shape → ℕ → Spelling
-spelling_with shape len = record { shape = shape; len = len }
+front_spelled : (bytes : List ℕ) (spelling : Spelling) → Front bytes spelling
+    → IsSpelled spelling.shape (take spelling.len bytes) (drop spelling.len bytes)
+front_spelled bytes spelling f =
+    let taken : take spelling.len bytes ≡ f.taken = ap (λ n. take n bytes) f.len_is
+    ∙ ap (take (length f.taken)) f.bytes_are ∙ take-append_seam f.taken f.behind in
+    let behind : drop spelling.len bytes ≡ f.behind = ap (λ n. drop n bytes) f.len_is
+    ∙ ap (drop (length f.taken)) f.bytes_are ∙ drop-append_seam f.taken f.behind in
+    subst₂ (IsSpelled spelling.shape) (sym taken) (sym behind) f.is_spelled
 
 same_span : (a b c d : ℕ) → a ≡ c → b ≡ d
     → ◌≡◌ {A = Span} (record { start = a; end = b }) (record { start = c; end = d })
@@ -73,11 +81,9 @@ token_covers place first bytes spelling tokens (Ok more) e further h =
       span_is = same_span place (place + spelling.len) (place + 0) (place + 0 + length spelled)
           (omega arith) (omega arith);
       is_token = record {
-        first = first;
-        others = bytes;
-        begins = sym whole;
         shape = spelling.shape;
-        longest = e ∙ ap (λ (n : ℕ). Some (spelling_with spelling.shape n)) (sym len);
+        is_spelled = subst (IsSpelled spelling.shape spelled) dropped
+            (front_spelled (first ∷ bytes) spelling (front first bytes spelling e));
         meaning = refl;
       };
     } in
@@ -176,9 +182,9 @@ covered_token : (place : ℕ) (bytes : List ℕ) (token : Token) (behind : List 
     → Begins place bytes token behind
     → tokens_in place bytes ≡ with_front (token ∷ []) (tokens_in token.span.end behind)
 covered_token place bytes token behind h =
-    let t = h.is_token in
+    let t = longest h.is_token.shape h.spelled behind h.is_token.is_spelled in
     let at = place + length h.spaces in
-    let spelling : Spelling = spelling_with t.shape (length h.spelled) in
+    let spelling : Spelling = spelling_with h.is_token.shape (length h.spelled) in
     let fits = spelled t.first t.others spelling t.longest in
     let passed = ap (tokens_in place) h.bytes_are
     ∙ spaces_passed place h.spaces (h.spelled ++ behind) h.are_spaces
@@ -188,8 +194,8 @@ covered_token place bytes token behind h =
     ap (take (length h.spelled)) (sym t.begins) ∙ take-append_seam h.spelled behind in
     let rest : drop (length h.spelled) (t.first ∷ t.others) ≡ behind =
     ap (drop (length h.spelled)) (sym t.begins) ∙ drop-append_seam h.spelled behind in
-    let kind_is : lexeme_of t.shape (take (length h.spelled) (t.first ∷ t.others)) ≡ token.kind =
-    ap (lexeme_of t.shape) front ∙ sym t.meaning in
+    let kind_is : lexeme_of h.is_token.shape (take (length h.spelled) (t.first ∷ t.others)) ≡ token.kind =
+    ap (lexeme_of h.is_token.shape) front ∙ sym h.is_token.meaning in
     let same : token_of at spelling (t.first ∷ t.others) ≡ token =
     same_token token _ _ (sym h.span_is) kind_is in
     let end : at + length h.spelled ≡ token.span.end = sym (ap (λ (s : Span). s.end) h.span_is) in

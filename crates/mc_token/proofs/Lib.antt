@@ -4,6 +4,9 @@ pub mod CutParts
 pub mod CutStrings
 pub mod CutOpenings
 pub mod CutElements
+pub mod SpelledRuns
+pub mod SpelledFound
+pub mod SpelledOne
 pub mod CutExists
 pub mod CutWhole
 pub mod Statements

@@ -1,7 +1,7 @@
 -- Tokens as spans that cover all bytes but the spaces: MySQL 8.0 manual, 9.1 and 9.2.
-use Rattle.std.specs.Prelude.{◌≡◌, ℕ, ◌+◌, true, List, [], ◌∷◌, ◌++◌, Some, length}
+use Rattle.std.specs.Prelude.{◌≡◌, ℕ, ◌+◌, true, List, [], ◌∷◌, ◌++◌, length}
 use Rattle.mc_token.specs.Bytes.{is_space}
-use Rattle.mc_token.specs.Spellings.{spelling_of}
+use Rattle.mc_token.specs.Spelled.{IsSpelled}
 use Rattle.mc_token.specs.Lexemes.{lexeme_of}
 use Rattle.mc_token.specs.declared.lexeme.Lexeme.{Lexeme}
 use Rattle.mc_token.specs.declared.lexeme.Token.{Token}
@@ -12,13 +12,10 @@ abbrev pub AreSpaces : List ℕ → Type 0
 AreSpaces [] = Unit {0}
 AreSpaces (byte ∷ bytes) = (is_space byte ≡ true) × AreSpaces bytes
 
--- These bytes are the longest spelling that begins before what is behind them, and say this.
+-- These bytes spell a token before what is behind them, and say this.
 pub record IsToken (spelled behind : List ℕ) (says : Lexeme) : Type 0 where
-  pub first : ℕ
-  pub others : List ℕ
-  pub begins : spelled ++ behind ≡ first ∷ others
   pub shape : Shape
-  pub longest : spelling_of first others ≡ Some (record { shape = shape; len = length spelled })
+  pub is_spelled : IsSpelled shape spelled behind
   pub meaning : says ≡ lexeme_of shape spelled
 
 -- A token begins these bytes behind spaces alone, at its span, and some bytes are behind it.

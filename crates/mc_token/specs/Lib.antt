@@ -6,6 +6,7 @@ pub mod Cut
 pub mod Statements
 pub mod Hexadecimal
 pub mod Spellings
+pub mod Spelled
 pub mod Lexemes
 pub mod Tokens
 pub mod Cover
