@@ -1,5 +1,5 @@
 -- The tokens of some bytes cover them, and no others do.
-use Rattle.std.proofs.Common.{◌≡◌, ℕ, ◌+◌, ◌-◌, ◌<◌, true, false, inl, inr, List, [], ◌∷◌, ◌++◌, length, take, drop, Option, Some, None, Result, Ok, Err, suc, zero, refl, ap, sym, subst, subst₂, ◌∙◌, arith}
+use Rattle.std.proofs.Common.{◌≡◌, ℕ, ◌+◌, ◌-◌, ◌<◌, true, false, inl, inr, List, [], ◌∷◌, ◌++◌, length, take, drop, Option, Some, None, Result, Ok, Err, suc, zero, refl, ap, sym, subst, ◌∙◌, arith}
 use Rattle.std.proofs.Math.Seq.{take-append_seam, drop-append_seam}
 use Rattle.std.proofs.lemmas.List.{take-append-drop, length-take-le}
 use Rattle.mc_base.specs.declared.span.Span.{Span}
@@ -13,21 +13,12 @@ use Rattle.mc_token.specs.declared.lexeme.Token.{Token}
 use Rattle.mc_token.specs.declared.lexeme.LexFault.{LexFault}
 use Rattle.mc_token.specs.declared.lexeme.LexFault.TheVariants.{NoToken}
 use Rattle.mc_token.specs.declared.spelling.Spelling.{Spelling}
-use Rattle.mc_token.proofs.Closing.{which}
-use Rattle.mc_token.proofs.Spellings.{spelled}
-use Rattle.mc_token.proofs.SpelledFound.{Front, front}
+use Rattle.mc_token.proofs.Choices.{which}
+use Rattle.mc_token.proofs.SpelledFirst.{spelled}
+use Rattle.mc_token.proofs.SpelledFound.{front, front_spelled}
 use Rattle.mc_token.proofs.SpelledOne.{longest, spelling_with}
 use Rattle.mc_token.specs.Spelled.{IsSpelled}
 use Rattle.mc_token.proofs.Lexing.{tokens_behind-drop}
-
-front_spelled : (bytes : List ℕ) (spelling : Spelling) → Front bytes spelling
-    → IsSpelled spelling.shape (take spelling.len bytes) (drop spelling.len bytes)
-front_spelled bytes spelling f =
-    let taken : take spelling.len bytes ≡ f.taken = ap (λ n. take n bytes) f.len_is
-    ∙ ap (take (length f.taken)) f.bytes_are ∙ take-append_seam f.taken f.behind in
-    let behind : drop spelling.len bytes ≡ f.behind = ap (λ n. drop n bytes) f.len_is
-    ∙ ap (drop (length f.taken)) f.bytes_are ∙ drop-append_seam f.taken f.behind in
-    subst₂ (IsSpelled spelling.shape) (sym taken) (sym behind) f.is_spelled
 
 same_span : (a b c d : ℕ) → a ≡ c → b ≡ d
     → ◌≡◌ {A = Span} (record { start = a; end = b }) (record { start = c; end = d })

@@ -6,7 +6,7 @@ use Rattle.std.proofs.lemmas.Bool.Decides.{nat_tests}
 use Rattle.mc_token.specs.Bytes.{line_feed, star, slash}
 use Rattle.mc_token.specs.Elements.{line_len, block_end}
 use Rattle.mc_token.specs.Comments.{EndOr}
-use Rattle.mc_token.proofs.Closing.{which}
+use Rattle.mc_token.proofs.Choices.{which}
 
 pub is_equal : (a b : ℕ) → a ≡ b → (a == b) ≡ true
 is_equal a b h = grind (arith, nat_tests)

@@ -5,7 +5,7 @@ use Rattle.mc_token.specs.Bytes.{backslash}
 use Rattle.mc_token.specs.Elements.{quote_end}
 use Rattle.mc_token.specs.Comments.{EndOr}
 use Rattle.mc_token.specs.Strings.{IsPlain, IsPair, IsContent}
-use Rattle.mc_token.proofs.Closing.{which}
+use Rattle.mc_token.proofs.Choices.{which}
 use Rattle.mc_token.proofs.CutParts.{is_equal, is_other}
 
 -- The content of these bytes, which begin at a place, and what is behind its quote.

@@ -1,3 +1,4 @@
+pub mod Choices
 pub mod Elements
 pub mod Lexemes
 pub mod CutParts
@@ -6,13 +7,12 @@ pub mod CutOpenings
 pub mod CutElements
 pub mod SpelledRuns
 pub mod SpelledFound
+pub mod SpelledFirst
 pub mod SpelledOne
 pub mod CutExists
 pub mod CutWhole
 pub mod Statements
 pub mod HexDigits
-pub mod Closing
-pub mod Spellings
 pub mod Lexing
 pub mod TokenLawsText
 pub mod TokenLawsCuts

@@ -1,9 +1,10 @@
 -- The spelling found is that of a token.
-use Rattle.std.proofs.Common.{◌≡◌, ◌≢◌, ℕ, ◌+◌, ◌<◌, ◌%◌, ◌==◌, ◌||◌, ◌&&◌, not, Bool, true, false, inl, inr, List, [], ◌∷◌, ◌++◌, Option, Some, None, length, drop, get_or, ltb, suc, refl, ap, sym, subst, append_assoc, length-append, ◌∙◌, arith}
+use Rattle.std.proofs.Common.{◌≡◌, ◌≢◌, ℕ, ◌+◌, ◌<◌, ◌%◌, ◌==◌, ◌||◌, ◌&&◌, not, Bool, true, false, inl, inr, List, [], ◌∷◌, ◌++◌, Option, Some, None, length, take, drop, get_or, ltb, suc, refl, ap, sym, subst, subst₂, append_assoc, length-append, ◌∙◌, arith}
 use Rattle.std.specs.Char.{is_ascii_hexdigit}
 use Rattle.std.proofs.lemmas.Bool.{eqb-true}
 use Rattle.std.proofs.lemmas.Bool.Decides.{nat_tests}
 use Rattle.std.proofs.lemmas.Option.{same_Some}
+use Rattle.std.proofs.Math.Seq.{take-append_seam, drop-append_seam}
 use Rattle.mc_token.specs.Bytes.{begins_word, continues_word, is_letter_n, is_letter_x, small_x, digit_zero, single_quote, double_quote, left_paren, right_paren, equals}
 use Rattle.mc_token.specs.Elements.{quote_end}
 use Rattle.mc_token.specs.Hexadecimal.{digits_len}
@@ -12,7 +13,7 @@ use Rattle.mc_token.specs.Spelled.{OpensPrefixed, IsSpelled}
 use Rattle.mc_token.specs.declared.lexeme.Symbol.TheVariants.{LeftParen, RightParen, Eq}
 use Rattle.mc_token.specs.declared.spelling.Spelling.{Spelling}
 use Rattle.mc_token.specs.declared.spelling.Shape.TheVariants.{Word, Str, National, HexString, HexNumber, Sym}
-use Rattle.mc_token.proofs.Closing.{which}
+use Rattle.mc_token.proofs.Choices.{which}
 use Rattle.mc_token.proofs.CutStrings.{string_closes}
 use Rattle.mc_token.proofs.CutElements.{string_of}
 use Rattle.mc_token.proofs.CutOpenings.{same_first, quote_said}
@@ -25,6 +26,15 @@ pub record Front (bytes : List ℕ) (spelling : Spelling) : Type 0 where
   pub bytes_are : bytes ≡ taken ++ behind
   pub len_is : spelling.len ≡ length taken
   pub is_spelled : IsSpelled spelling.shape taken behind
+
+pub front_spelled : (bytes : List ℕ) (spelling : Spelling) → Front bytes spelling
+    → IsSpelled spelling.shape (take spelling.len bytes) (drop spelling.len bytes)
+front_spelled bytes spelling f =
+    let taken : take spelling.len bytes ≡ f.taken = ap (λ n. take n bytes) f.len_is
+    ∙ ap (take (length f.taken)) f.bytes_are ∙ take-append_seam f.taken f.behind in
+    let behind : drop spelling.len bytes ≡ f.behind = ap (λ n. drop n bytes) f.len_is
+    ∙ ap (drop (length f.taken)) f.bytes_are ∙ drop-append_seam f.taken f.behind in
+    subst₂ (IsSpelled spelling.shape) (sym taken) (sym behind) f.is_spelled
 
 -- The letter before a quote
 

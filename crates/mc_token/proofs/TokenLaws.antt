@@ -1,8 +1,7 @@
 -- The laws of the tokens of a statement, by what begins at a byte.
-use Rattle.std.proofs.Common.{◌≡◌, ℕ, ◌+◌, ◌-◌, ◌<◌, ◌≤◌, Bool, true, false, List, [], ◌∷◌, Option, Some, None, Result, Ok, Err, length, take, drop, get_or, suc, zero, inl, inr, ◌⊎◌, refl, ap, sym, subst, ◌∙◌, length-take, length-drop, subst₂, arith}
+use Rattle.std.proofs.Common.{◌≡◌, ℕ, ◌+◌, ◌-◌, ◌<◌, ◌≤◌, Bool, true, false, List, [], ◌∷◌, ◌++◌, Option, Some, None, Result, Ok, Err, length, take, drop, get_or, suc, zero, inl, inr, ◌⊎◌, refl, ap, sym, subst, ◌∙◌, length-append, append_assoc, length-take, length-drop, subst₂, arith}
 use Rattle.std.specs.Prelude.{slice_range, nat_le}
 use Rattle.std.specs.Str.{IsUtf8}
-use Rattle.std.proofs.lemmas.List.{take-take}
 use Rattle.mc_base.specs.declared.span.Span.{Span}
 use Rattle.mc_token.specs.Bytes.{is_space, single_quote}
 use Rattle.mc_token.specs.Spellings.{spelling_of}
@@ -17,8 +16,13 @@ use Rattle.mc_token.specs.declared.spelling.Shape.{Shape}
 use Rattle.mc_token.specs.declared.spelling.Shape.TheVariants.{Word, Str, National, HexString, HexNumber, Sym}
 use Rattle.mc_token.proofs.TokenLawsCuts.{AreCutsUtf8, cuts-behind, cuts-slice}
 use Rattle.mc_token.proofs.TokenLawsText.{content-utf8}
-use Rattle.mc_token.proofs.Closing.{Closed}
-use Rattle.mc_token.proofs.Spellings.{IsQuoted, spelled}
+use Rattle.mc_token.proofs.CutOpenings.{same_first}
+use Rattle.mc_token.proofs.SpelledFirst.{spelled}
+use Rattle.mc_token.proofs.SpelledFound.{front, front_spelled}
+use Rattle.mc_token.specs.Strings.{IsQuote, IsString}
+use Rattle.mc_token.specs.Spelled.{IsNational, IsSpelled}
+use Rattle.std.proofs.Math.Seq.{take-append_seam, get_or-append_seam}
+use Rattle.std.proofs.lemmas.List.{take-append-drop}
 
 -- What begins at a byte
 
@@ -120,69 +124,74 @@ order zero at (byte ∷ behind) tokens within e =
 -- Their texts
 
 -- between the quotes, behind one byte
-inside-one : (first len : ℕ) (bytes : List ℕ) → len < length bytes
-    → inside 1 (first ∷ take (suc len) bytes) ≡ take len bytes
-inside-one first len bytes within =
-    let count : length (first ∷ take (suc len) bytes) - 1 - 1 ≡ len =
-    omega (arith, length-take (suc len) bytes) in
-    ap (λ n. take n (take (suc len) bytes)) count ∙ take-take len (suc len) bytes (omega arith)
+inside-one : (quote : ℕ) (text : List ℕ) → inside 1 (quote ∷ text ++ quote ∷ []) ≡ text
+inside-one quote text =
+    let count : length (quote ∷ text ++ quote ∷ []) - 1 - 1 ≡ length text =
+    omega (arith, length-append text (quote ∷ [])) in
+    ap (λ n. take n (text ++ quote ∷ [])) count ∙ take-append_seam text (quote ∷ [])
 
 -- and behind two
-inside-two : (first quote len : ℕ) (bytes : List ℕ) → len < length bytes
-    → inside 2 (first ∷ quote ∷ take (suc len) bytes) ≡ take len bytes
-inside-two first quote len bytes within =
-    let count : length (first ∷ quote ∷ take (suc len) bytes) - 1 - 2 ≡ len =
-    omega (arith, length-take (suc len) bytes) in
-    ap (λ n. take n (take (suc len) bytes)) count ∙ take-take len (suc len) bytes (omega arith)
+inside-two : (letter quote : ℕ) (text : List ℕ)
+    → inside 2 (letter ∷ quote ∷ text ++ quote ∷ []) ≡ text
+inside-two letter quote text =
+    let count : length (letter ∷ quote ∷ text ++ quote ∷ []) - 1 - 2 ≡ length text =
+    omega (arith, length-append text (quote ∷ [])) in
+    ap (λ n. take n (text ++ quote ∷ [])) count ∙ take-append_seam text (quote ∷ [])
 
-text-string : (first : ℕ) (behind : List ℕ) (end : ℕ) → first < 128 → Closed first 0 behind end
-    → AreCutsUtf8 (first ∷ behind)
-    → HasUtf8Text (lexeme_of Str (first ∷ take end behind))
-unfolding lexeme_of
-text-string first behind end low c cuts =
-    let place : end ≡ suc c.len = omega (arith, c.place) in
-    let last : 0 + c.len ≡ c.len = omega arith in
-    let closing : get_or behind (0 + c.len) 0 ≡ first =
-    ap (λ n. get_or behind n 0) last ∙ c.closes in
-    let utf8 = cuts 0 c.len (omega (arith, c.within)) low (omega arith) in
-    subst (λ n. IsUtf8 (content first (inside 1 (first ∷ take n behind)))) (sym place)
-    (subst (λ text. IsUtf8 (content first text)) (sym (inside-one first c.len behind c.within))
-    (content-utf8 first (take c.len behind) low utf8))
+quote-low : (quote : ℕ) → IsQuote quote → quote < 128
+quote-low quote (inl e) = omega (arith, e)
+quote-low quote (inr e) = omega (arith, e)
 
--- the quote of a national string, and what is behind it
-text-national : (first quote : ℕ) (bytes : List ℕ) (end : ℕ) → quote ≡ single_quote
-    → Closed single_quote 0 bytes end → AreCutsUtf8 (first ∷ quote ∷ bytes)
-    → HasUtf8Text (lexeme_of National (first ∷ quote ∷ take end bytes))
-unfolding lexeme_of
-text-national first quote bytes end opens c cuts =
-    let place : end ≡ suc c.len = omega (arith, c.place) in
-    let last : get_or bytes c.len 0 < 128 = omega (arith, c.closes) in
-    let one : suc c.len ≡ 1 + c.len = omega arith in
-    let closing : get_or (quote ∷ bytes) (1 + c.len) 0 < 128 =
-    subst (λ n. get_or (quote ∷ bytes) n 0 < 128) one last in
-    let utf8 = cuts 1 c.len (omega (arith, c.within)) (omega (arith, opens)) closing in
-    subst (λ n. IsUtf8 (content single_quote (inside 2 (first ∷ quote ∷ take n bytes)))) (sym place)
-    (subst (λ text. IsUtf8 (content single_quote text))
-    (sym (inside-two first quote c.len bytes c.within))
-    (content-utf8 single_quote (take c.len bytes) (omega arith) utf8))
+-- what stands between two quotes
+quoted-utf8 : (quote : ℕ) (text behind : List ℕ) → quote < 128
+    → AreCutsUtf8 (quote ∷ (text ++ quote ∷ []) ++ behind) → IsUtf8 (content quote text)
+quoted-utf8 quote text behind low cuts =
+    let assoc = append_assoc text (quote ∷ []) behind in
+    let parts = subst (λ l. AreCutsUtf8 (quote ∷ l)) assoc cuts in
+    let count = length-append text (quote ∷ behind) in
+    let place : 0 + length text ≡ length text = omega arith in
+    let last : get_or (text ++ quote ∷ behind) (0 + length text) 0 ≡ quote =
+    ap (λ n. get_or (text ++ quote ∷ behind) n 0) place ∙ get_or-append_seam text quote behind 0 in
+    let utf8 = parts 0 (length text) (omega (arith, count)) low (omega (arith, last)) in
+    content-utf8 quote text low (subst IsUtf8 (take-append_seam text (quote ∷ behind)) utf8)
 
-text-of : (shape : Shape) (len first : ℕ) (behind : List ℕ) → IsQuoted shape len first behind
-    → AreCutsUtf8 (first ∷ behind)
-    → HasUtf8Text (lexeme_of shape (take len (first ∷ behind)))
+text-string : (taken behind : List ℕ) → IsString taken behind → AreCutsUtf8 (taken ++ behind)
+    → HasUtf8Text (lexeme_of Str taken)
 unfolding lexeme_of
-text-of Word len first behind q cuts = tt
-text-of HexString len first behind q cuts = tt
-text-of HexNumber len first behind q cuts = tt
-text-of (Sym symbol) len first behind q cuts = tt
-text-of Str len first behind q cuts =
-    let long : len ≡ suc q.1.0 = omega (arith, q.1.1.0) in
-    subst (λ n. HasUtf8Text (lexeme_of Str (take n (first ∷ behind)))) (sym long)
-    (text-string first behind q.1.0 q.0 q.1.1.1 cuts)
-text-of National len first [] q cuts = let none : 0 ≡ single_quote = q.0 in absurd (omega arith)
-text-of National len first (quote ∷ bytes) q cuts =
-    let long : len ≡ suc (suc q.1.0) = omega (arith, q.1.1.0) in
-    subst (λ n. HasUtf8Text (lexeme_of National (take n (first ∷ quote ∷ bytes)))) (sym long)
-    (text-national first quote bytes q.1.0 q.0 q.1.1.1 cuts)
+text-string taken behind h cuts =
+    let quote = h.0 in
+    let text = h.1 in
+    let utf8 = quoted-utf8 quote text behind (quote-low quote h.2)
+    (subst (λ (l : List ℕ). AreCutsUtf8 (l ++ behind)) h.3 cuts) in
+    subst (λ (l : List ℕ). HasUtf8Text (lexeme_of Str l)) (sym h.3)
+    (subst (λ l. IsUtf8 (content quote l)) (sym (inside-one quote text)) utf8)
+
+-- the string behind the letter
+text-national : (taken behind : List ℕ) → IsNational taken behind → AreCutsUtf8 (taken ++ behind)
+    → HasUtf8Text (lexeme_of National taken)
+unfolding lexeme_of
+text-national taken behind h cuts =
+    let letter = h.0 in
+    let text = h.4.1 in
+    let same = same_first single_quote h.4.0 h.1 (text ++ h.4.0 ∷ []) h.4.3 in
+    let rest : h.1 ≡ text ++ single_quote ∷ [] =
+    same.1 ∙ ap (λ q. text ++ q ∷ []) (sym same.0) in
+    let whole : taken ≡ letter ∷ single_quote ∷ text ++ single_quote ∷ [] =
+    h.2 ∙ ap (λ l. letter ∷ single_quote ∷ l) rest in
+    let parts = cuts-behind letter _ (subst (λ (l : List ℕ). AreCutsUtf8 (l ++ behind)) whole cuts) in
+    let utf8 = quoted-utf8 single_quote text behind (omega arith) parts in
+    subst (λ (l : List ℕ). HasUtf8Text (lexeme_of National l)) (sym whole)
+    (subst (λ l. IsUtf8 (content single_quote l)) (sym (inside-two letter single_quote text)) utf8)
+
+text-of : (shape : Shape) (taken behind : List ℕ) → IsSpelled shape taken behind
+    → AreCutsUtf8 (taken ++ behind) → HasUtf8Text (lexeme_of shape taken)
+unfolding lexeme_of
+text-of Word taken behind h cuts = tt
+text-of HexString taken behind h cuts = tt
+text-of HexNumber taken behind h cuts = tt
+text-of (Sym symbol) taken behind h cuts = tt
+text-of Str taken behind h cuts = text-string taken behind h cuts
+text-of National taken behind h cuts = text-national taken behind h cuts
 
 texts-at : (at byte : ℕ) (behind : List ℕ) (tokens : List Token) → AreCutsUtf8 (byte ∷ behind)
     → ((skipped : ℕ) (more : List Token) → tokens_behind skipped (at + 1) behind ≡ Ok more
@@ -191,9 +200,13 @@ texts-at : (at byte : ℕ) (behind : List ℕ) (tokens : List Token) → AreCuts
     → HaveUtf8Texts tokens
 texts-at at byte behind tokens cuts more (inl e) = more zero tokens e
 texts-at at byte behind tokens cuts more (inr b) =
-    let s = spelled byte behind b.spelling b.spelled in
+    let len = b.spelling.len in
+    let bytes = byte ∷ behind in
+    let is_spelled =
+    front_spelled bytes b.spelling (front byte behind b.spelling b.spelled) in
     subst HaveUtf8Texts (sym b.all) (
-      text-of b.spelling.shape b.spelling.len byte behind s.quoted cuts,
+      text-of b.spelling.shape (take len bytes) (drop len bytes) is_spelled
+          (subst AreCutsUtf8 (sym (take-append-drop len bytes)) cuts),
       more (b.spelling.len - 1) b.rest b.lexed,
     )
 

@@ -64,9 +64,11 @@ mark_spelling byte =
 -- The spelling that a byte begins, beside the bytes behind it, where one does.
 unfoldable pub spelling_of : ℕ → List ℕ → Option Spelling
 spelling_of first behind =
-    if is_letter_n first && opens_single behind then string_spelling National 2 (quote_end single_quote 0 (drop 1 behind))
+    if is_letter_n first && opens_single behind
+    then string_spelling National 2 (quote_end single_quote 0 (drop 1 behind))
     else (if is_letter_x first && opens_single behind then hex_string_spelling (drop 1 behind)
     else (if begins_word first then Some (record { shape = Word; len = 1 + word_len behind })
-    else (if first == single_quote || first == double_quote then string_spelling Str 1 (quote_end first 0 behind)
+    else (if first == single_quote || first == double_quote
+    then string_spelling Str 1 (quote_end first 0 behind)
     else (if first == digit_zero then hex_number_spelling behind
     else mark_spelling first))))
