@@ -1,4 +1,5 @@
 use Rattle.mc_token.proofs.TokenLaws.{tokens-order, tokens-texts}
+use Rattle.mc_token.proofs.HexDigits.{bytes-digits}
 use Rattle.mc_token.proofs.Cover.{tokens_cover, cover_is_tokens}
 use Rattle.mc_token.proofs.laws.token_laws.Goals as goal
 
@@ -11,3 +12,6 @@ returns-clause-texts c = tokens-texts
 pub returns-clause-cover : goal.returns-clause-cover
 returns-clause-cover c =
     λ place bytes tokens. (tokens_cover place bytes tokens, cover_is_tokens place bytes tokens)
+
+pub returns-clause-digits : goal.returns-clause-digits
+returns-clause-digits c = bytes-digits
