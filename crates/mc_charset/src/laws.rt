@@ -1,6 +1,6 @@
 ghost use Rattle.mc_charset.specs.Chars.{spell, chars, Spells, IsWellFormed};
 ghost use Rattle.mc_charset.specs.declared.charset.Charset.{Charset};
-ghost use Rattle.mc_charset.specs.declared.charset.Charset.TheVariants.{Utf8mb4};
+ghost use Rattle.mc_charset.specs.declared.charset.Charset.TheVariants.{Utf8mb4, Binary, Latin1};
 ghost use Rattle.std.specs.Prelude.{IsUtf8, ◌≡◌, ℕ, List, Some, ◌++◌, []};
 
 /// The laws of spellings: at most one list of characters spells a text, and `chars` is that list;
@@ -19,4 +19,10 @@ pub fn chars_law()
 pub fn utf8_law()
     ensures read { (text : List ℕ) → IsUtf8 text → IsWellFormed Utf8mb4 text }
     ensures written { (text : List ℕ) → IsWellFormed Utf8mb4 text → IsUtf8 text }
+{}
+
+/// Each byte is a character of binary and of latin1, so each text is well formed in these sets.
+pub fn bytes_law(text: &[u8])
+    ensures binary { IsWellFormed Binary text.now }
+    ensures latin1 { IsWellFormed Latin1 text.now }
 {}

@@ -23,7 +23,7 @@ pub use charset::Charset;
 pub use collation_id::CollId;
 pub use count::{char_count, char_start};
 pub use front::next_char;
-pub use laws::{chars_law, utf8_law};
+pub use laws::{bytes_law, chars_law, utf8_law};
 pub use names::{bin_of, charset_by_name, charset_name, is_unicode};
 pub use put::{PutChar, has_char, put_char};
 pub use well_formed::is_well_formed;
