@@ -66,8 +66,3 @@ behind_shared set pad space f a b n h =
     )
     (list_order-front pad space (map f h.0) (map f (chars set (drop n a))) (map f (chars set
     (drop n b))))))
-
-pub weights_of_same : (s t : Charset) (x y : List ℕ) → s ≡ t → x ≡ y →
-    map (λ code. bin_number s code + 1) (chars s x) ≡ map (λ code. bin_number t code + 1)
-    (chars t y)
-weights_of_same s t x y e d = rw (e, d) refl

@@ -1,11 +1,11 @@
 ghost use Rattle.mc_charset.specs.Chars.{chars};
-ghost use Rattle.mc_order.specs.Bin.{bin_meaning, built_in};
+ghost use Rattle.mc_order.specs.Bin.{bin_meaning, bin_number, built_in};
 ghost use Rattle.mc_order.specs.BinLaws.{bin_lawful};
 ghost use Rattle.mc_order.specs.Laws.{IsLawful};
 ghost use Rattle.std.specs.Prelude.{◌≡◌, ◌+◌, ◌≤◌, ◌∷◌, [], map, slice_index_or};
 
-use crate::bin_weights::{compare_bin, put_bin_list};
-use crate::{Collation, Pad};
+use crate::bin_number::bin_number;
+use crate::{CharWeight, Collation, Pad, compare_chars, put_chars};
 use mc_base::{NoMemory, Weights};
 use mc_charset::{Charset, CollId, chars_law};
 use std::cmp::Ordering;
@@ -50,6 +50,20 @@ impl BinCollation {
     }
 }
 
+impl CharWeight for BinCollation {
+    ghost set = { λ bin. bin.0 };
+
+    ghost weight = { λ bin code. bin_number bin.0 code + 1 };
+
+    fn set(&self) -> Charset {
+        self.charset
+    }
+
+    fn weight(&self, code: u32, spelling: &[u8]) -> u32 {
+        bin_number(self.charset, code, spelling) + 1
+    }
+}
+
 impl Collation for BinCollation {
     ghost meaning = { bin_meaning };
 
@@ -85,7 +99,7 @@ impl Collation for BinCollation {
     }
 
     fn compare(&self, a: &[u8], b: &[u8]) -> Ordering {
-        compare_bin(self.charset, a, b, self.pad, self.space())
+        compare_chars(self, a, b, self.pad, self.space())
     }
 
     fn same_char(&self, c: u32, d: u32) -> bool {
@@ -110,7 +124,7 @@ impl Collation for BinCollation {
     }
 
     fn put_list(&self, text: &[u8], first: Option<u32>, out: &mut Weights) -> Result<(), NoMemory> {
-        put_bin_list(self.charset, text, first, out)
+        put_chars(self, text, first, out)
     }
 
     ghost lawful = { bin_lawful };

@@ -6,13 +6,15 @@
 //! keeps, and `specs/Consequences.antt` what code that is generic in it may rest on.
 //!
 //! Read `pad`, `lists`, `collation`, `book`; then `stream`, by which each kind compares without a
-//! list; then `bin`, `bin_weights` and `shared`, the nine built-in collations:
+//! list; `char_weights` and `shared`, by which a kind of one weight a character does; then `bin` and
+//! `bin_number`, the nine built-in collations:
 //! `BinCollation::new(CollId(4)).compare(a, b)` is the order of two utf8mb4 texts by code points.
 #![tactic(auto)]
 
 mod bin;
-mod bin_weights;
+mod bin_number;
 mod book;
+mod char_weights;
 mod collation;
 mod lists;
 mod pad;
@@ -23,6 +25,7 @@ mod tests;
 
 pub use bin::BinCollation;
 pub use book::Book;
+pub use char_weights::{CharWeight, compare_chars, put_chars};
 pub use collation::{Collation, collation_laws};
 pub use lists::{compare_lists, order_laws};
 pub use pad::Pad;
