@@ -24,11 +24,11 @@ reserved_words =
     ∷ codes "set" ∷ codes "char" ∷ codes "binary" ∷ codes "both" ∷ codes "leading"
     ∷ codes "trailing" ∷ codes "for" ∷ []
 
--- The names of the character sets.
+-- The names of the character sets; `utf8` is another one of utf8mb3.
 abbrev pub set_names : List (List ℕ)
 set_names =
     codes "latin1" ∷ codes "ascii" ∷ codes "utf8mb3" ∷ codes "utf8mb4" ∷ codes "ucs2"
-    ∷ codes "utf16" ∷ codes "utf32" ∷ codes "binary" ∷ []
+    ∷ codes "utf16" ∷ codes "utf32" ∷ codes "binary" ∷ codes "utf8" ∷ []
 
 -- The word is reserved.
 unfoldable pub is_reserved : List ℕ → Bool
