@@ -2,7 +2,7 @@ ghost use Rattle.mc_charset.specs.Chars.{chars, spell, IsWellFormed};
 ghost use Rattle.mc_charset.specs.declared.charset.Charset.{Charset as Set};
 ghost use Rattle.mc_order.specs.Meaning.{first_chars};
 ghost use Rattle.mc_order.specs.Order.{list_order};
-ghost use Rattle.std.specs.Prelude.{◌≡◌, ◌++◌, ◌<◌, ℕ, Some, length, map, OnOk, OnErr};
+ghost use Rattle.std.specs.Prelude.{◌≡◌, ◌++◌, ◌∷◌, ◌<◌, ℕ, Some, IfSome, drop, length, map, take, OnOk, OnErr};
 
 use crate::shared::shared_start;
 use crate::{Pad, WeightStream, compare_streams, put_first_weights, put_weights};
@@ -49,6 +49,11 @@ impl<'a, W: CharWeight> WeightStream for CharWeights<'a, W> {
     ghost left = { λ weights. map (W.weight weights.weigher.now) (chars (W.set weights.weigher.now) weights.text.now) };
 
     fn next_weight(&mut self) -> Option<u32> {
+        if let Some(byte) = ascii_front(self.weigher.set(), self.text) {
+            let weight = self.weigher.weight(u32::from(byte), &self.text[..1]);
+            self.text = &self.text[1..];
+            return Some(weight);
+        }
         match next_char(self.weigher.set(), self.text) {
             CharAt::Char { code, len } => {
                 let weight = self.weigher.weight(code, &self.text[..len]);
@@ -57,6 +62,34 @@ impl<'a, W: CharWeight> WeightStream for CharWeights<'a, W> {
             }
             CharAt::End | CharAt::Bad => None,
         }
+    }
+}
+
+/// The first byte of a text in UTF-8, where it is a character by itself.
+// Most are: without a look at the set's table a comparison runs twice as fast over them.
+#[inline(always)]
+#[tactic(auto, using(crate::proofs::Ascii::ascii))]
+fn ascii_front(set: Charset, text: &[u8]) -> Option<u8>
+    ensures some { IfSome result (λ byte. 0 < length text.now) }
+    ensures spelled { IfSome result (λ byte. spell set byte ≡ Some (take 1 text.now)) }
+    ensures front { IfSome result (λ byte. chars set text.now ≡ byte ∷ chars set (drop 1 text.now)) }
+{
+    match set {
+        Charset::Utf8mb4 => ascii_byte(text),
+        Charset::Utf8mb3 => ascii_byte(text),
+        _ => None,
+    }
+}
+
+/// The first byte of a text, where it is below 0x80.
+#[inline(always)]
+fn ascii_byte(text: &[u8]) -> Option<u8>
+    ensures below { IfSome result (λ byte. byte < 0x80) }
+    ensures first { IfSome result (λ byte. text.now ≡ byte ∷ drop 1 text.now) }
+{
+    match *text {
+        [byte @ 0x00..=0x7F, ..] => Some(byte),
+        _ => None,
     }
 }
 
