@@ -1,6 +1,6 @@
 -- The binary collations keep the laws.
-use Rattle.std.proofs.Common.{◌≡◌, ◌⊎◌, ℕ, zero, suc, ◌+◌, ◌-◌, ◌^◌, ◌<◌, ◌≤◌, Bool, true, false, cond, List, [], ◌∷◌, ◌++◌, Some, map, length, take, drop, append-nil, refl, sym, ap, ◌∙◌, inl, inr, arith}
-use Rattle.std.specs.List.{All, Contains}
+use Rattle.std.proofs.Common.{◌≡◌, ℕ, ◌+◌, ◌-◌, ◌^◌, ◌<◌, ◌≤◌, Bool, true, false, cond, List, [], ◌∷◌, Some, map, length, take, drop, append-nil, refl, sym, ap, ◌∙◌, inl, arith}
+use Rattle.std.specs.List.{All}
 use Rattle.std.proofs.lemmas.List.Elements.{All-nil, All-cons}
 use Rattle.mc_charset.specs.declared.charset.Charset.{Charset}
 use Rattle.mc_charset.specs.declared.charset.Charset.TheVariants.{Latin1, Ascii, Utf8mb3, Utf8mb4, Ucs2, Utf16, Utf32, Binary}
@@ -8,7 +8,8 @@ use Rattle.mc_charset.specs.Chars.{spell}
 use Rattle.mc_order.specs.declared.pad.Pad.{Pad}
 use Rattle.mc_order.specs.declared.pad.Pad.TheVariants.{PadSpace, NoPad}
 use Rattle.mc_order.specs.Meaning.{IsCharOf, AreCharsOf}
-use Rattle.mc_order.specs.Laws.{KeepsSpace, KeepsSettings, IsWeight, IsCut, KeepsTails, HasWeightPerChar, IsLawful}
+use Rattle.mc_order.specs.Laws.{KeepsSpace, KeepsSettings, IsWeight, IsCut, HasWeightPerChar, IsLawful}
+use Rattle.mc_order.specs.WithoutContractions.{without_tails, map-split, enough}
 use Rattle.mc_order.specs.Bin.{is_one_byte, first_byte, bin_number, bin_meaning}
 use Rattle.mc_order.specs.Characters.{AreCharsOf-parts}
 use Rattle.mc_order.specs.Spelling.{code_below, one_byte}
@@ -78,21 +79,6 @@ bin_bounds set pad (c ∷ cs) chars =
     (λ code. bin_number set code + 1) cs) (bin_weight_fits set pad c parts.0)
     (bin_bounds set pad cs parts.1)
 
-map-split : (f : ℕ → ℕ) (k : ℕ) (xs : List ℕ) → map f xs ≡ map f (take k xs) ++ map f (drop k xs)
-map-split f zero xs = refl
-map-split f (suc k) [] = refl
-map-split f (suc k) (x ∷ xs) = ap (λ t. f x ∷ t) (map-split f k xs)
-
-more : {k n : ℕ} {P : Type 0} → (k ≤ n) ⊎ P → (suc k ≤ suc n) ⊎ P
-more (inl h) = inl (omega arith)
-more (inr h) = inr h
-
-enough : (f : ℕ → ℕ) (k : ℕ) (xs : List ℕ) →
-    (k ≤ length (map f (take k xs))) ⊎ (map f (drop k xs) ≡ [])
-enough f zero xs = inl (omega arith)
-enough f (suc k) [] = inr refl
-enough f (suc k) (x ∷ xs) = more (enough f k xs)
-
 bin_cut : (set : Charset) (pad : Pad) (k : ℕ) (codes : List ℕ) →
     IsCut (bin_meaning (set, pad)) k codes
 bin_cut set pad k codes =
@@ -110,15 +96,6 @@ bin_cut set pad k codes =
 bin_weights : (set : Charset) (pad : Pad) → HasWeightPerChar (bin_meaning (set, pad))
 bin_weights set pad = (refl, λ code c e. cc)
 
-no_tails : {X : Type 0} (x : X) → Contains [] x → ⊥
-no_tails x h = let k = h.1 in omega arith
-
-bin_tails : (set : Charset) (pad : Pad) → KeepsTails (bin_meaning (set, pad))
-bin_tails set pad = record {
-  each = λ weights. ((λ h. absurd (no_tails weights h)), λ h. absurd (no_tails (h.1 ++ h.2) h.5));
-  ordered = λ i j less below. absurd (omega arith);
-}
-
 pub bin_lawful : (bin : Charset × Pad) → IsLawful (bin_meaning bin)
 bin_lawful (set, pad) = record {
   settings = bin_settings set pad;
@@ -128,5 +105,5 @@ bin_lawful (set, pad) = record {
   head = λ level code codes some within chars head. refl;
   floor_of = λ k. ((λ weights. refl), λ none. absurd (none (bin_weights set pad)));
   contractions_of = All-nil (λ codes. (2 ≤ length codes) × AreCharsOf set codes);
-  tails_of = bin_tails set pad;
+  tails_of = without_tails (bin_meaning (set, pad)) refl refl;
 }

@@ -3,6 +3,7 @@ pub mod Meaning
 pub mod Laws
 pub mod Consequences
 pub mod Characters
+pub mod WithoutContractions
 pub mod Bin
 pub mod Spelling
 pub mod BinLaws

@@ -1,0 +1,36 @@
+-- What a collation keeps that has no contractions, and lists of one weight a character.
+use Rattle.std.proofs.Common.{◌≡◌, ◌⊎◌, ℕ, zero, suc, ◌≤◌, List, [], ◌∷◌, ◌++◌, map, length, take, drop, refl, ap, inl, inr, arith}
+use Rattle.std.specs.List.{Contains}
+use Rattle.mc_order.specs.Meaning.{Meaning}
+use Rattle.mc_order.specs.Laws.{KeepsTails}
+
+no_member : {X : Type 0} (xs : List X) (x : X) → xs ≡ [] → Contains xs x → ⊥
+no_member xs x e h = let l : length xs ≡ 0 = ap length e in let k = h.1 in omega arith
+
+-- Without contractions there are no tails.
+pub without_tails : (m : Meaning) → m.contractions ≡ [] → m.tails ≡ [] → KeepsTails m
+without_tails m contractions tails = record {
+  each = λ weights. (
+    (λ h. absurd (no_member m.tails weights tails h)),
+    λ h. absurd (no_member m.contractions (h.1 ++ h.2) contractions h.5),
+  );
+  ordered = λ i j less below. let none : length m.tails ≡ 0 = ap length tails in absurd (omega arith);
+}
+
+-- The weights of the first characters, and those of the rest.
+pub map-split : (f : ℕ → ℕ) (k : ℕ) (xs : List ℕ) →
+    map f xs ≡ map f (take k xs) ++ map f (drop k xs)
+map-split f zero xs = refl
+map-split f (suc k) [] = refl
+map-split f (suc k) (x ∷ xs) = ap (λ t. f x ∷ t) (map-split f k xs)
+
+more : {k n : ℕ} {P : Type 0} → (k ≤ n) ⊎ P → (suc k ≤ suc n) ⊎ P
+more (inl h) = inl (omega arith)
+more (inr h) = inr h
+
+-- The first k characters have k weights, or all of them.
+pub enough : (f : ℕ → ℕ) (k : ℕ) (xs : List ℕ) →
+    (k ≤ length (map f (take k xs))) ⊎ (map f (drop k xs) ≡ [])
+enough f zero xs = inl (omega arith)
+enough f (suc k) [] = inr refl
+enough f (suc k) (x ∷ xs) = more (enough f k xs)
