@@ -1,1 +1,2 @@
 pub mod PlainLawful
+pub mod Sets

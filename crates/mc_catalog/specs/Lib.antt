@@ -1,3 +1,5 @@
 pub mod BuiltIn
 pub mod LookUp
 pub mod Lawful
+pub mod Words
+pub mod Entries

@@ -1,5 +1,8 @@
+ghost use Rattle.std.specs.Prelude.{◌≡◌};
+ghost use Rattle.mc_catalog.specs.Lawful.{suits, takes_rules};
+
 use mc_base::{List, Text};
-use mc_charset::{Charset, CollId};
+use mc_charset::{Charset, CollId, is_unicode};
 
 /// Where a collation's weights come from: the bytes of the spelling, a table of 256 bytes, a table
 /// of code points, or an element table of the Unicode Collation Algorithm of that version, by the
@@ -14,6 +17,31 @@ pub enum Kind {
     Uca900AiCi,
     Uca900AsCi,
     Uca900AsCs,
+}
+
+impl Kind {
+    /// Whether a collation of this set may be declared with the kind.
+    pub(crate) fn suits(self, set: Charset) -> bool
+        ensures { result ≡ suits self set }
+    {
+        match self {
+            Kind::Bin => false,
+            Kind::Table8 => set == Charset::Latin1 || set == Charset::Ascii,
+            Kind::General | Kind::Uca400 | Kind::Uca520 => is_unicode(set),
+            Kind::Uca900AiCi | Kind::Uca900AsCi | Kind::Uca900AsCs => set == Charset::Utf8mb4,
+        }
+    }
+
+    /// Whether the kind can be tailored by rules.
+    pub(crate) fn takes_rules(self) -> bool
+        ensures { result ≡ takes_rules self }
+    {
+        match self {
+            Kind::Bin | Kind::Table8 | Kind::General => false,
+            Kind::Uca400 | Kind::Uca520 | Kind::Uca900AiCi | Kind::Uca900AsCi | Kind::Uca900AsCs =>
+                true,
+        }
+    }
 }
 
 /// A collation: its name in lower case, its set and kind, the file of its weights (no name for a

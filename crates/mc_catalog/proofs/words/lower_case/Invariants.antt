@@ -1,0 +1,7 @@
+-- The bytes so far are in lower case.
+use Rattle.std.proofs.Common.{◌≡◌, map, take}
+use Rattle.std.specs.Char.{to_ascii_lowercase}
+use Rattle.mc_catalog.proofs.words.lower_case.Given as goal
+
+abbrev pub invariant-loop-byte : goal.invariant-loop-byte
+invariant-loop-byte l = l.text ≡ map to_ascii_lowercase (take l.byte-index l.field)
