@@ -1,2 +1,5 @@
 pub mod PlainLawful
 pub mod Sets
+pub mod Lists
+pub mod LawfulSteps
+pub mod LinesRead

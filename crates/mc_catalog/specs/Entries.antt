@@ -5,7 +5,7 @@ use Rattle.std.specs.Option.{option_and_then}
 use Rattle.std.specs.Char.{is_ascii}
 use Rattle.std.specs.Str.{bytes_eq}
 use Rattle.mc_base.specs.Fields.{fields_of}
-use Rattle.mc_catalog.specs.Words.{name_of, number_of, length_of, kind_of, set_of}
+use Rattle.mc_catalog.specs.Words.{name_of, decimal_of, length_of, kind_of, set_of}
 use Rattle.mc_catalog.specs.Lawful.{takes_rules}
 use Rattle.mc_catalog.specs.declared.catalog.Kind.{Kind}
 use Rattle.mc_catalog.specs.declared.catalog.ColumnType.TheVariants.{BigInt, Binary, VarBinary}
@@ -74,7 +74,7 @@ column_entry (name ∷ form) = option_and_then (λ form. option_map (λ name. Co
 -- the length of the front that an index covers: none, or `K`
 unfoldable pub prefix_part : List (List ℕ) → Option (Option ℕ)
 prefix_part [] = Some None
-prefix_part (k ∷ []) = option_map Some (number_of k)
+prefix_part (k ∷ []) = option_map Some (decimal_of k)
 prefix_part _ = None
 
 -- `NAME COLUMN` or `NAME COLUMN K`

@@ -42,12 +42,12 @@ abbrev pub decimal_value : List ℕ → ℕ
 decimal_value digits = fold (λ value digit. 10 * value + (digit - 0x30)) 0 digits
 
 -- the number that a field is; one above 65535, which is above each length, counts as that
-unfoldable pub number_of : List ℕ → Option ℕ
-number_of field = if is_decimal field then Some (min 65535 (decimal_value field)) else None
+unfoldable pub decimal_of : List ℕ → Option ℕ
+decimal_of field = if is_decimal field then Some (min 65535 (decimal_value field)) else None
 
 -- the length that a field is, from 1 to a limit
 unfoldable pub length_of : ℕ → List ℕ → Option ℕ
-length_of limit field = if_within (number_of field)
+length_of limit field = if_within (decimal_of field)
   where
     if_within : Option ℕ → Option ℕ
     if_within None = None

@@ -1,5 +1,5 @@
 ghost use Rattle.std.specs.Prelude.{◌≡◌};
-ghost use Rattle.mc_catalog.specs.Lawful.{suits, takes_rules};
+ghost use Rattle.mc_catalog.specs.Lawful.{suits, takes_rules, width_of};
 
 use mc_base::{List, Text};
 use mc_charset::{Charset, CollId, is_unicode};
@@ -63,6 +63,21 @@ pub enum ColumnType {
     VarChar { n: u32, coll: CollId },
     Binary { n: u32 },
     VarBinary { n: u32 },
+}
+
+impl ColumnType {
+    /// The greatest length of a value, in characters, or bytes of a binary string; a bigint has none.
+    pub(crate) fn width(self) -> Option<u32>
+        ensures { result ≡ width_of self }
+    {
+        match self {
+            ColumnType::BigInt => None,
+            ColumnType::Char { n, .. }
+            | ColumnType::VarChar { n, .. }
+            | ColumnType::Binary { n }
+            | ColumnType::VarBinary { n } => Some(n),
+        }
+    }
 }
 
 /// A column: its name in lower case, and its type.

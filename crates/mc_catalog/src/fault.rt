@@ -1,4 +1,5 @@
 ghost use Rattle.std.specs.Prelude.{◌≡◌};
+ghost use Rattle.mc_catalog.specs.CatalogFaults.{line_told};
 ghost use Rattle.mc_catalog.specs.declared.fault.CatalogFaultKind.TheVariants.{NoMemory as OutOfMemory};
 
 use mc_base::NoMemory;
@@ -43,5 +44,28 @@ impl From<NoMemory> for CatalogFaultKind {
 
     fn from(_error: NoMemory) -> CatalogFaultKind {
         CatalogFaultKind::NoMemory
+    }
+}
+
+impl CatalogFault {
+    /// A fault of the line of this number.
+    pub(crate) fn at_line(kind: CatalogFaultKind, number: u32) -> CatalogFault
+        ensures { result ≡ record { kind = kind; line = line_told kind number } }
+    {
+        match kind {
+            CatalogFaultKind::NoMemory => CatalogFault { kind, line: 0 },
+            _ => CatalogFault { kind, line: number },
+        }
+    }
+}
+
+impl From<NoMemory> for CatalogFault {
+    ghost from_gives = { λ _ fault. fault ≡ record { kind = OutOfMemory; line = 0 } };
+
+    fn from(_error: NoMemory) -> CatalogFault {
+        CatalogFault {
+            kind: CatalogFaultKind::NoMemory,
+            line: 0,
+        }
     }
 }

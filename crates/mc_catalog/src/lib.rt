@@ -4,12 +4,17 @@
 //! says what each catalog keeps to.
 #![tactic(auto)]
 
+mod builder;
 mod catalog;
 mod entry;
 mod fault;
+mod forms;
 mod look_up;
 mod plain;
-mod reading;
+mod reader;
+#[cfg(test)]
+mod reader_tests;
+mod tables;
 #[cfg(test)]
 mod tests;
 mod words;
@@ -18,3 +23,4 @@ pub use catalog::{Catalog, CollDecl, ColumnDecl, ColumnType, IndexDecl, Kind, Ta
 pub use fault::{CatalogFault, CatalogFaultKind};
 pub use look_up::{default_of, find_collation};
 pub use plain::plain_catalog;
+pub use reader::read_catalog;

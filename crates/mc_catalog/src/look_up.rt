@@ -1,5 +1,6 @@
 ghost use Rattle.std.specs.Prelude.{◌≡◌, ◌^◌, ◌<◌, length, option_map, IfSome};
 ghost use Rattle.mc_catalog.specs.LookUp.{number_of, usual_name, IsUsual};
+ghost use Rattle.mc_catalog.specs.Progress.{id_of};
 
 use crate::{Catalog, CollDecl};
 use mc_charset::{Charset, CollId, bin_of};
@@ -9,10 +10,7 @@ pub fn find_collation(catalog: &Catalog, name: &[u8]) -> Option<CollId>
     requires { length catalog.now.collations < 2 ^ 32 }
     ensures { option_map (λ id. id.0) result ≡ number_of catalog.now.collations name.now }
 {
-    match place_of(catalog.collations.as_slice(), name) {
-        Some(place) => Some(CollId(place as u32)),
-        None => None,
-    }
+    id_of(catalog.collations.as_slice(), name)
 }
 
 /// The usual collation of a set, as `utf8mb4_0900_ai_ci` of utf8mb4, where the catalog declares it
@@ -34,8 +32,19 @@ pub fn default_of(catalog: &Catalog, set: Charset) -> CollId
     }
 }
 
+/// The collation of this name.
+pub(crate) fn id_of(collations: &[CollDecl], name: &[u8]) -> Option<CollId>
+    requires { length collations.now < 2 ^ 32 }
+    ensures { result ≡ id_of collations.now name.now }
+{
+    match place_of(collations, name) {
+        Some(place) => Some(CollId(place as u32)),
+        None => None,
+    }
+}
+
 /// The place of the first collation of this name.
-fn place_of(collations: &[CollDecl], name: &[u8]) -> Option<usize>
+pub(crate) fn place_of(collations: &[CollDecl], name: &[u8]) -> Option<usize>
     ensures place { result ≡ number_of collations.now name.now }
     ensures within { IfSome result (λ i. i < length collations.now) }
 {

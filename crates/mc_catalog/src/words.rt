@@ -1,7 +1,7 @@
-ghost use Rattle.std.specs.Prelude.{◌≡◌, IfOk, map, min, true};
+ghost use Rattle.std.specs.Prelude.{◌≡◌, ◌≤◌, IfSome, IfOk, map, min, true};
 ghost use Rattle.std.specs.Char.{is_ascii_digit, to_ascii_lowercase};
 ghost use Rattle.std.specs.List.{list_all};
-ghost use Rattle.mc_catalog.specs.Words.{is_name_byte, is_name, name_of, is_decimal, decimal_value, number_of, length_of, kind_of, set_of};
+ghost use Rattle.mc_catalog.specs.Words.{is_name_byte, is_name, name_of, is_decimal, decimal_value, decimal_of, length_of, kind_of, set_of};
 
 use crate::Kind;
 use mc_base::{NoMemory, Text};
@@ -61,9 +61,9 @@ fn lower_case(alloc: Global, field: &[u8]) -> Result<Text, NoMemory>
 }
 
 /// The decimal number that a field is, at most 65,535; None where it is none, or has a leading zero.
-#[tactic(auto, unfolding(crate::specs::Words::number_of))]
+#[tactic(auto, unfolding(crate::specs::Words::decimal_of))]
 pub(crate) fn read_number(field: &[u8]) -> Option<u32>
-    ensures { result ≡ number_of field.now }
+    ensures { result ≡ decimal_of field.now }
 {
     if !is_decimal(field) {
         return None;
@@ -103,7 +103,8 @@ fn are_digits(field: &[u8]) -> bool
 /// The length that a field is, from 1 to a limit.
 #[tactic(auto, unfolding(crate::specs::Words::length_of))]
 pub(crate) fn read_length(limit: u32, field: &[u8]) -> Option<u32>
-    ensures { result ≡ length_of limit field.now }
+    ensures value { result ≡ length_of limit field.now }
+    ensures within { IfSome result (λ n. (1 ≤ n) × (n ≤ limit)) }
 {
     match read_number(field) {
         Some(n) => { if 1 <= n && n <= limit { Some(n) } else { None } }

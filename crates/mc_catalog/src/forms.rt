@@ -1,8 +1,9 @@
-ghost use Rattle.std.specs.Prelude.{◌≡◌, IfOk, IfSome, MatchOption, option_map};
+ghost use Rattle.std.specs.Prelude.{◌≡◌, IfOk, IfSome, IsTrue, option_map};
 ghost use Rattle.std.specs.List.{list_all};
 ghost use Rattle.std.specs.Char.{is_ascii};
 ghost use Rattle.mc_base.specs.Fields.{fields_of};
 ghost use Rattle.mc_catalog.specs.Words.{length_of};
+ghost use Rattle.mc_catalog.specs.Formed.{IsFormed, IsFormedColumn};
 ghost use Rattle.mc_catalog.specs.Entries.{may_have_rules, rules_part, collation_entry, connection_entry, table_entry, whole_form, binary_form, text_form, column_form, column_entry, prefix_part, index_entry, entry_in, entry_of};
 
 use crate::entry::{ColumnForm, Entry};
@@ -14,7 +15,8 @@ use std::alloc::Global;
 /// The entry that a line's body says; None where it has a byte above 7F, or another form.
 #[tactic(auto, unfolding(crate::specs::Entries::entry_of))]
 pub(crate) fn read_entry(alloc: Global, body: &[u8]) -> Result<Option<Entry>, NoMemory>
-    ensures { IfOk result (λ entry. entry ≡ entry_of body.now) }
+    ensures value { IfOk result (λ entry. entry ≡ entry_of body.now) }
+    ensures formed { IfOk result (λ entry. IfSome entry IsFormed) }
 {
     if is_ascii(body) {
         entry_in(alloc, body)
@@ -33,7 +35,8 @@ fn is_ascii(body: &[u8]) -> bool
 /// The entry of a body's fields.
 #[tactic(auto, unfolding(crate::specs::Entries::entry_in))]
 fn entry_in(alloc: Global, body: &[u8]) -> Result<Option<Entry>, NoMemory>
-    ensures { IfOk result (λ entry. entry ≡ entry_in (fields_of body.now)) }
+    ensures value { IfOk result (λ entry. entry ≡ entry_in (fields_of body.now)) }
+    ensures formed { IfOk result (λ entry. IfSome entry IsFormed) }
 {
     let Some((word, rest)) = next_field(body) else {
         return Ok(None);
@@ -56,7 +59,8 @@ fn entry_in(alloc: Global, body: &[u8]) -> Result<Option<Entry>, NoMemory>
 /// `NAME SET KIND FILE` or `NAME SET KIND FILE rules FILE`.
 #[tactic(auto, unfolding(crate::specs::Entries::collation_entry))]
 fn collation_entry(alloc: Global, body: &[u8]) -> Result<Option<Entry>, NoMemory>
-    ensures { IfOk result (λ entry. entry ≡ collation_entry (fields_of body.now)) }
+    ensures value { IfOk result (λ entry. entry ≡ collation_entry (fields_of body.now)) }
+    ensures formed { IfOk result (λ entry. IfSome entry IsFormed) }
 {
     let Some((name, rest)) = next_field(body) else {
         return Ok(None);
@@ -93,7 +97,8 @@ fn rules_part(
     kind: Option<Kind>,
     body: &[u8],
 ) -> Result<Option<Option<Text>>, NoMemory>
-    ensures { IfOk result (λ rules. rules ≡ rules_part kind (fields_of body.now)) }
+    ensures value { IfOk result (λ rules. rules ≡ rules_part kind (fields_of body.now)) }
+    ensures formed { IfOk result (λ rules. IfSome rules (λ file. IfSome file (λ _. IsTrue (may_have_rules kind)))) }
 {
     let Some((word, rest)) = next_field(body) else {
         return Ok(Some(None));
@@ -124,7 +129,8 @@ fn may_have_rules(kind: Option<Kind>) -> bool
 /// `NAME`.
 #[tactic(auto, unfolding(crate::specs::Entries::connection_entry))]
 fn connection_entry(alloc: Global, body: &[u8]) -> Result<Option<Entry>, NoMemory>
-    ensures { IfOk result (λ entry. entry ≡ connection_entry (fields_of body.now)) }
+    ensures value { IfOk result (λ entry. entry ≡ connection_entry (fields_of body.now)) }
+    ensures formed { IfOk result (λ entry. IfSome entry IsFormed) }
 {
     let Some((name, rest)) = next_field(body) else {
         return Ok(None);
@@ -141,7 +147,8 @@ fn connection_entry(alloc: Global, body: &[u8]) -> Result<Option<Entry>, NoMemor
 /// `NAME FILE`.
 #[tactic(auto, unfolding(crate::specs::Entries::table_entry))]
 fn table_entry(alloc: Global, body: &[u8]) -> Result<Option<Entry>, NoMemory>
-    ensures { IfOk result (λ entry. entry ≡ table_entry (fields_of body.now)) }
+    ensures value { IfOk result (λ entry. entry ≡ table_entry (fields_of body.now)) }
+    ensures formed { IfOk result (λ entry. IfSome entry IsFormed) }
 {
     let Some((name, rest)) = next_field(body) else {
         return Ok(None);
@@ -164,7 +171,8 @@ fn table_entry(alloc: Global, body: &[u8]) -> Result<Option<Entry>, NoMemory>
 /// `NAME` and a type.
 #[tactic(auto, unfolding(crate::specs::Entries::column_entry))]
 fn column_entry(alloc: Global, body: &[u8]) -> Result<Option<Entry>, NoMemory>
-    ensures { IfOk result (λ entry. entry ≡ column_entry (fields_of body.now)) }
+    ensures value { IfOk result (λ entry. entry ≡ column_entry (fields_of body.now)) }
+    ensures formed { IfOk result (λ entry. IfSome entry IsFormed) }
 {
     let Some((name, rest)) = next_field(body) else {
         return Ok(None);
@@ -181,7 +189,8 @@ fn column_entry(alloc: Global, body: &[u8]) -> Result<Option<Entry>, NoMemory>
 /// The type of a column: one, two or three fields.
 #[tactic(auto, unfolding(crate::specs::Entries::column_form))]
 fn column_form(alloc: Global, body: &[u8]) -> Result<Option<ColumnForm>, NoMemory>
-    ensures { IfOk result (λ form. form ≡ column_form (fields_of body.now)) }
+    ensures value { IfOk result (λ form. form ≡ column_form (fields_of body.now)) }
+    ensures formed { IfOk result (λ form. IfSome form IsFormedColumn) }
 {
     let Some((word, rest)) = next_field(body) else {
         return Ok(None);
@@ -201,7 +210,8 @@ fn column_form(alloc: Global, body: &[u8]) -> Result<Option<ColumnForm>, NoMemor
 /// `bigint`.
 #[tactic(auto, unfolding(crate::specs::Entries::whole_form))]
 fn whole_form(word: &[u8]) -> Option<ColumnForm>
-    ensures { result ≡ whole_form word.now }
+    ensures value { result ≡ whole_form word.now }
+    ensures formed { IfSome result IsFormedColumn }
 {
     if word == b"bigint".as_slice() {
         Some(ColumnForm::Plain(ColumnType::BigInt))
@@ -213,7 +223,8 @@ fn whole_form(word: &[u8]) -> Option<ColumnForm>
 /// `binary N` or `varbinary N`.
 #[tactic(auto, unfolding(crate::specs::Entries::binary_form))]
 fn binary_form(word: &[u8], n: &[u8]) -> Option<ColumnForm>
-    ensures { result ≡ binary_form word.now n.now }
+    ensures value { result ≡ binary_form word.now n.now }
+    ensures formed { IfSome result IsFormedColumn }
 {
     if word == b"binary".as_slice() {
         let n = read_length(255, n)?;
@@ -234,7 +245,8 @@ fn text_form(
     n: &[u8],
     collation: &[u8],
 ) -> Result<Option<ColumnForm>, NoMemory>
-    ensures { IfOk result (λ form. form ≡ text_form word.now n.now collation.now) }
+    ensures value { IfOk result (λ form. form ≡ text_form word.now n.now collation.now) }
+    ensures formed { IfOk result (λ form. IfSome form IsFormedColumn) }
 {
     let Some(collation) = read_name(alloc, collation)? else {
         return Ok(None);
@@ -250,7 +262,8 @@ fn text_form(
 
 /// `char` of a length, 1 to 255.
 fn char_form(n: &[u8], collation: Text) -> Option<ColumnForm>
-    ensures { result ≡ option_map (λ n. ColumnForm.Char n collation) (length_of 255 n.now) }
+    ensures value { result ≡ option_map (λ n. ColumnForm.Char n collation) (length_of 255 n.now) }
+    ensures formed { IfSome result IsFormedColumn }
 {
     let n = read_length(255, n)?;
     Some(ColumnForm::Char { n, collation })
@@ -258,7 +271,8 @@ fn char_form(n: &[u8], collation: Text) -> Option<ColumnForm>
 
 /// `varchar` of a length, 1 to 4,096.
 fn varchar_form(n: &[u8], collation: Text) -> Option<ColumnForm>
-    ensures { result ≡ option_map (λ n. ColumnForm.VarChar n collation) (length_of 4096 n.now) }
+    ensures value { result ≡ option_map (λ n. ColumnForm.VarChar n collation) (length_of 4096 n.now) }
+    ensures formed { IfSome result IsFormedColumn }
 {
     let n = read_length(4096, n)?;
     Some(ColumnForm::VarChar { n, collation })
@@ -267,7 +281,8 @@ fn varchar_form(n: &[u8], collation: Text) -> Option<ColumnForm>
 /// `NAME COLUMN` or `NAME COLUMN K`.
 #[tactic(auto, unfolding(crate::specs::Entries::index_entry))]
 fn index_entry(alloc: Global, body: &[u8]) -> Result<Option<Entry>, NoMemory>
-    ensures { IfOk result (λ entry. entry ≡ index_entry (fields_of body.now)) }
+    ensures value { IfOk result (λ entry. entry ≡ index_entry (fields_of body.now)) }
+    ensures formed { IfOk result (λ entry. IfSome entry IsFormed) }
 {
     let Some((name, rest)) = next_field(body) else {
         return Ok(None);
