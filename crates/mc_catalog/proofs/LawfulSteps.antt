@@ -1,12 +1,12 @@
 -- A lawful catalog stays lawful with each entry that has no fault.
-use Rattle.std.proofs.Common.{◌≡◌, ◌≢◌, ℕ, zero, suc, ◌+◌, ◌^◌, ◌<◌, ◌≤◌, ◌==◌, nat_le, nat_lt, Bool, true, false, not, ◌&&◌, IsTrue, List, [], ◌∷◌, ◌++◌, length, map, take, drop, get_or, Option, None, Some, option_map, Result, Ok, Err, OnOk, refl, sym, subst, ap, ◌∙◌, arith}
+use Rattle.std.proofs.Common.{◌≡◌, ◌≢◌, ℕ, zero, suc, ◌+◌, ◌^◌, ◌<◌, ◌≤◌, ◌==◌, nat_le, nat_lt, Bool, true, false, not, ◌&&◌, cond, IsTrue, List, [], ◌∷◌, ◌++◌, length, map, take, drop, get_or, Option, None, Some, option_map, Result, Ok, Err, OnOk, refl, sym, subst, ap, ◌∙◌, arith}
 use Rattle.std.specs.List.{list_any, position, slice_get, All, find}
 use Rattle.std.specs.Option.{is_some, is_none, IfSome, IsSomeAnd, option_and_then, option_to_list, unwrap_or}
 use Rattle.std.specs.Str.{bytes_eq}
 use Rattle.std.proofs.lemmas.List.{map-append, length-append, length-take, take-append-le, drop-append-le}
 use Rattle.std.proofs.lemmas.List.Elements.{All-push, All-pop, All-weaker}
 use Rattle.std.proofs.lemmas.List.Quantifiers.{position-Some}
-use Rattle.std.proofs.lemmas.Option.{slice_get-get_or}
+use Rattle.std.proofs.lemmas.Option.{cond_some}
 use Rattle.std.proofs.lemmas.Bool.Decides.{nat_tests}
 use Rattle.mc_charset.specs.declared.charset.Charset.{Charset}
 use Rattle.mc_charset.specs.declared.charset.Charset.TheVariants.{Latin1}
@@ -30,9 +30,9 @@ use Rattle.mc_catalog.specs.BuiltIn.{built_in_collations}
 use Rattle.mc_catalog.specs.Lawful.{IsLawful, IsLawfulTable, IsLawfulType, IsLawfulCollation, IsLawfulIndex, AreApart, suits, takes_rules, width_of}
 use Rattle.mc_catalog.specs.LookUp.{number_of}
 use Rattle.mc_catalog.specs.Formed.{IsFormed, IsFormedColumn, IsFormedType}
-use Rattle.mc_catalog.specs.Progress.{Progress, tables_of, declared_of, id_of, type_of, with_column, indexed_column, with_index, with_entry, catalog_of}
-use Rattle.mc_catalog.specs.CatalogFaults.{Tests, first_of, collation_tests, connection_tests, table_tests, column_tests, index_tests, tests_in, tests_of, width_at, is_bad_length}
-use Rattle.mc_catalog.proofs.Lists.{apart_more, none_placed, kept_at}
+use Rattle.mc_catalog.specs.Progress.{Progress, tables_of, declared_of, id_of, type_of, with_column, column_named, width_at, indexed_column, with_index, with_entry, catalog_of}
+use Rattle.mc_catalog.specs.CatalogFaults.{Tests, first_of, collation_tests, connection_tests, table_tests, column_tests, index_tests, tests_in, tests_of, indexed_width, is_bad_length}
+use Rattle.mc_catalog.proofs.Lists.{apart_more, kept_at}
 
 -- Where the first of two tests to find a fault is none, neither finds one.
 two_clear : (k l : CatalogFaultKind) (a b : Bool) → first_of ((k, a) ∷ (l, b) ∷ []) ≡ None → (a ≡ false) × (b ≡ false)
@@ -84,7 +84,7 @@ nine collations e =
     let taken : length (take 9 collations) ≡ 9 = ap length e in
     omega (arith, length-take 9 collations)
 
-collation_kept : (so_far : Progress) (declared : CollDecl) → IsLawful (catalog_of so_far) → IsLawfulCollation declared → is_some (number_of so_far.collations declared.name) ≡ false → length so_far.collations < 73 → IsLawful (catalog_of (record so_far { collations = so_far.collations ++ declared ∷ [] }))
+collation_kept : (so_far : Progress) (declared : CollDecl) → IsLawful (catalog_of so_far) → IsLawfulCollation declared → list_any (λ other. bytes_eq other.name declared.name) so_far.collations ≡ false → length so_far.collations < 73 → IsLawful (catalog_of (record so_far { collations = so_far.collations ++ declared ∷ [] }))
 collation_kept so_far declared h own fresh few =
     let collations = so_far.collations in
     let some = nine collations h.built_in in
@@ -93,7 +93,7 @@ collation_kept so_far declared h own fresh few =
       built_in = rw (take-append-le 9 collations (declared ∷ []) some) h.built_in;
       few_collations = omega (arith, length-append collations (declared ∷ []));
       declared = rw (drop-append-le 9 collations (declared ∷ []) some) (All-push IsLawfulCollation (drop 9 collations) declared h.declared own);
-      collation_names = apart_more (λ other. other.name) collations declared h.collation_names (none_placed (λ other. bytes_eq other.name declared.name) collations fresh);
+      collation_names = apart_more (λ other. other.name) collations declared h.collation_names fresh;
       few_tables = h.few_tables;
       tables = All-weaker (IsLawfulTable (length collations)) (IsLawfulTable (length (collations ++ declared ∷ [])))
           (λ table. table_kept (length collations) (length (collations ++ declared ∷ [])) table more) (tables_of so_far) h.tables;
@@ -107,7 +107,7 @@ unfolding declared_of
 collation_step so_far name None kind file rules h formed e = absurd (cc)
 collation_step so_far name (Some set) None file rules h formed e = absurd (cc)
 collation_step so_far name (Some set) (Some kind) file rules h formed e =
-    let clear = three_clear WrongCharset Repeated TooMany (not (suits kind set)) (is_some (number_of so_far.collations name)) (nat_le 73 (length so_far.collations)) e in
+    let clear = three_clear WrongCharset Repeated TooMany (not (suits kind set)) (list_any (λ other. bytes_eq other.name name) so_far.collations) (nat_le 73 (length so_far.collations)) e in
     collation_kept so_far (record { name = name; charset = set; kind = kind; file = file; rules = rules }) h (not_false (suits kind set) clear.0, formed) clear.1 (below 73 (length so_far.collations) clear.2)
 
 -- the number of a collation is that of one
@@ -280,27 +280,26 @@ front_of : (width prefix : Option ℕ) → is_some width ≡ true → is_bad_len
 front_of None prefix some e = absurd (cc)
 front_of (Some n) prefix some e = front_within prefix n e
 
--- the right side of a conjunction that holds
-and_right : (a b : Bool) → (a && b) ≡ true → b ≡ true
-and_right true b e = e
-and_right false b e = absurd (cc)
+-- the index of the column at a place, if its values have a length
+place_lawful : (columns : List ColumnDecl) (prefix : Option ℕ) (place : ℕ) (found : Option ColumnDecl) → is_some (option_and_then (λ column. width_of column.ty) found) ≡ true → is_bad_length prefix (option_and_then (λ column. width_of column.ty) found) ≡ false → IsSomeAnd found (λ column. IsSomeAnd (width_of column.ty) (λ n. IfSome prefix (λ k. (1 ≤ k) × (k ≤ n))))
+place_lawful columns prefix place None some fits = absurd (let e : false ≡ true = some in cc)
+place_lawful columns prefix place (Some column) some fits = front_of (width_of column.ty) prefix some fits
 
 -- The index of a column that has a length, over a front that fits, is lawful.
-index_lawful : (columns : List ColumnDecl) (name column : List ℕ) (prefix : Option ℕ) (place : ℕ) → indexed_column columns column ≡ Some place → is_bad_length prefix (width_at columns column) ≡ false → IsLawfulIndex columns (record { name = name; column = place; prefix = prefix })
-unfolding indexed_column width_at
-index_lawful columns name column prefix place e fits =
-    let none : ColumnDecl = record { name = []; ty = BigInt } in
-    let test : ColumnDecl → Bool = λ other. bytes_eq other.name column && is_some (width_of other.ty) in
-    let found = position-Some test columns place none e in
-    let there = slice_get-get_or columns place none found.0 in
-    let has_width = and_right (bytes_eq (get_or columns place none).name column) (is_some (width_of (get_or columns place none).ty)) found.1 in
-    let fits_there : is_bad_length prefix (width_of (get_or columns place none).ty) ≡ false = rw (e, there) at fits in
-    rw there (front_of (width_of (get_or columns place none).ty) prefix has_width fits_there)
+index_lawful : (columns : List ColumnDecl) (name column : List ℕ) (prefix : Option ℕ) (place : ℕ) → indexed_column columns column ≡ Some place → is_bad_length prefix (indexed_width columns column) ≡ false → IsLawfulIndex columns (record { name = name; column = place; prefix = prefix })
+unfolding indexed_column indexed_width width_at
+index_lawful columns name column prefix place e fits = of (column_named columns column) e fits
+  where
+    of : (at_name : Option ℕ) → option_and_then (λ place. cond (is_some (option_and_then (λ column. width_of column.ty) (slice_get columns place))) (Some place) None) at_name ≡ Some place → is_bad_length prefix (option_and_then (λ place. option_and_then (λ column. width_of column.ty) (slice_get columns place)) at_name) ≡ false → IsLawfulIndex columns (record { name = name; column = place; prefix = prefix })
+    of None e fits = absurd (let f : None ≡ Some place = e in cc)
+    of (Some p) e fits =
+        let chosen = cond_some (is_some (option_and_then (λ column. width_of column.ty) (slice_get columns p))) p place e in
+        rw (← chosen.1) (place_lawful columns prefix p (slice_get columns p) chosen.0 fits)
 
 -- what the tests of an index leave
-index_clear : (name column : List ℕ) (prefix : Option ℕ) (table : TableDecl) → first_of (index_tests name column prefix table) ≡ None → (is_none (indexed_column table.columns column) ≡ false) × (is_bad_length prefix (width_at table.columns column) ≡ false) × (list_any (λ index. bytes_eq index.name name) table.indexes ≡ false) × (nat_le 8 (length table.indexes) ≡ false)
+index_clear : (name column : List ℕ) (prefix : Option ℕ) (table : TableDecl) → first_of (index_tests name column prefix table) ≡ None → (is_none (indexed_column table.columns column) ≡ false) × (is_bad_length prefix (indexed_width table.columns column) ≡ false) × (list_any (λ index. bytes_eq index.name name) table.indexes ≡ false) × (nat_le 8 (length table.indexes) ≡ false)
 index_clear name column prefix table e =
-    four_clear UnknownColumn BadLength Repeated TooMany (is_none (indexed_column table.columns column)) (is_bad_length prefix (width_at table.columns column))
+    four_clear UnknownColumn BadLength Repeated TooMany (is_none (indexed_column table.columns column)) (is_bad_length prefix (indexed_width table.columns column))
     (list_any (λ index. bytes_eq index.name name) table.indexes) (nat_le 8 (length table.indexes)) e
 
 -- an entry that adds an index

@@ -19,7 +19,7 @@ use Rattle.mc_catalog.specs.declared.fault.CatalogFaultKind.TheVariants.{BadLine
 use Rattle.mc_catalog.specs.Lawful.{suits, width_of}
 use Rattle.mc_catalog.specs.LookUp.{number_of}
 use Rattle.mc_catalog.specs.Entries.{entry_of}
-use Rattle.mc_catalog.specs.Progress.{Progress, tables_of, type_of, indexed_column, said_by}
+use Rattle.mc_catalog.specs.Progress.{Progress, tables_of, type_of, column_named, width_at, indexed_column, said_by}
 
 -- faults in the order in which they are looked for, each with whether it is there
 abbrev pub Tests : Type 0
@@ -38,7 +38,7 @@ is_wrong_set _ _ = false
 abbrev pub collation_tests : List CollDecl → List ℕ → Option Charset → Option Kind → Tests
 collation_tests collations name set kind =
     (UnknownCharset, is_none set) ∷ (UnknownKind, is_none kind) ∷ (WrongCharset, is_wrong_set kind set)
-    ∷ (Repeated, is_some (number_of collations name)) ∷ (TooMany, nat_le 73 (length collations)) ∷ []
+    ∷ (Repeated, list_any (λ other. bytes_eq other.name name) collations) ∷ (TooMany, nat_le 73 (length collations)) ∷ []
 
 -- the tests of a connection line: there is at most one
 abbrev pub connection_tests : List CollDecl → List ℕ → Option CollId → Tests
@@ -55,9 +55,8 @@ column_tests collations name form table =
     ∷ (TooMany, nat_le 32 (length table.columns)) ∷ []
 
 -- the greatest length of the values of the column of this name
-unfoldable pub width_at : List ColumnDecl → List ℕ → Option ℕ
-width_at columns name =
-    option_and_then (λ place. option_and_then (λ column. width_of column.ty) (slice_get columns place)) (indexed_column columns name)
+unfoldable pub indexed_width : List ColumnDecl → List ℕ → Option ℕ
+indexed_width columns name = option_and_then (width_at columns) (column_named columns name)
 
 -- whether the front that an index covers is empty, or longer than the values can be
 unfoldable pub is_bad_length : Option ℕ → Option ℕ → Bool
@@ -67,7 +66,7 @@ is_bad_length _ _ = false
 -- the tests of an index: a table has at most 8
 abbrev pub index_tests : List ℕ → List ℕ → Option ℕ → TableDecl → Tests
 index_tests name column prefix table =
-    (UnknownColumn, is_none (indexed_column table.columns column)) ∷ (BadLength, is_bad_length prefix (width_at table.columns column))
+    (UnknownColumn, is_none (indexed_column table.columns column)) ∷ (BadLength, is_bad_length prefix (indexed_width table.columns column))
     ∷ (Repeated, list_any (λ index. bytes_eq index.name name) table.indexes) ∷ (TooMany, nat_le 8 (length table.indexes)) ∷ []
 
 -- the tests of a part of the last table, which there must be

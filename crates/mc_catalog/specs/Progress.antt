@@ -1,5 +1,6 @@
 -- What the lines of a catalog say together: each entry adds its part to what those before it say.
-use Rattle.std.specs.Prelude.{ℕ, Bool, ◌&&◌, List, [], ◌∷◌, ◌++◌, fold, Option, None, Some, option_map, position, unwrap_or}
+use Rattle.std.specs.Prelude.{◌≡◌, ◌≤◌, ◌+◌, ℕ, false, IfSome, length, List, [], ◌∷◌, ◌++◌, fold, Option, None, Some, option_map, position, slice_get, unwrap_or, if◌then◌else◌}
+use Rattle.std.specs.List.{list_any}
 use Rattle.std.specs.Option.{is_some, option_and_then, option_to_list}
 use Rattle.std.specs.Str.{bytes_eq}
 use Rattle.mc_charset.specs.declared.charset.Charset.{Charset}
@@ -57,9 +58,17 @@ unfoldable pub with_column : List CollDecl → List ℕ → ColumnForm → Table
 with_column collations name form table =
     option_map (λ type. record table { columns = table.columns ++ record { name = name; ty = type } ∷ [] }) (type_of collations form)
 
+-- the place of the column of this name
+abbrev pub column_named : List ColumnDecl → List ℕ → Option ℕ
+column_named columns name = position (λ column. bytes_eq column.name name) columns
+
+-- the greatest length of the values of the column at a place
+unfoldable pub width_at : List ColumnDecl → ℕ → Option ℕ
+width_at columns place = option_and_then (λ column. width_of column.ty) (slice_get columns place)
+
 -- the place of the column of this name, if it has a length
 unfoldable pub indexed_column : List ColumnDecl → List ℕ → Option ℕ
-indexed_column columns name = position (λ column. bytes_eq column.name name && is_some (width_of column.ty)) columns
+indexed_column columns name = option_and_then (λ place. if is_some (width_at columns place) then Some place else None) (column_named columns name)
 
 -- a table with one more index
 unfoldable pub with_index : List ℕ → List ℕ → Option ℕ → TableDecl → Option TableDecl
@@ -98,3 +107,8 @@ said_by lines = fold with_line nothing_said lines
 -- the catalog of what lines say; the connection collation is utf8mb4_bin where no line names one
 abbrev pub catalog_of : Progress → Catalog
 catalog_of so_far = record { collations = so_far.collations; tables = tables_of so_far; connection = unwrap_or so_far.connection (record { 0 = 4 }) }
+
+-- Each table has its line, and the last table has a name of its own.
+pub record IsInStep (earlier : List TableDecl) (last : Option TableDecl) (table_lines : List ℕ) : Type 0 where
+  pub lined : length earlier + length (option_to_list last) ≤ length table_lines
+  pub apart : IfSome last (λ table. list_any (λ other. bytes_eq other.name table.name) earlier ≡ false)

@@ -9,9 +9,9 @@ use crate::catalog::{Catalog, CollDecl, Kind, TableDecl};
 use crate::entry::{ColumnForm, Entry};
 use crate::fault::{CatalogFault, CatalogFaultKind};
 use crate::forms::read_entry;
-use crate::look_up::{id_of, place_of};
+use crate::named::Named;
+use crate::open_table::{OpenTable, id_of};
 use crate::plain::built_in_collations;
-use crate::tables::{add_column, add_index, bare_place, has_table};
 use mc_base::{List, NoMemory, Text};
 use mc_charset::{Charset, CollId};
 use std::alloc::Global;
@@ -26,17 +26,15 @@ const TABLES: usize = 16;
 /// Gathers what the lines of a catalog say. The last table is open for columns and indexes.
 #[derive(Drop)]
 pub(crate) struct CatalogBuilder {
-    collations: List<CollDecl>,
-    earlier: List<TableDecl>,
-    last: Option<TableDecl>,
+    collations: Named<CollDecl>,
+    earlier: Named<TableDecl>,
+    last: Option<OpenTable>,
     connection: Option<CollId>,
     table_lines: List<u32>,
 }
 
 impl Model for CatalogBuilder {
-    ghost use Rattle.std.specs.Prelude.{◌+◌, ◌≤◌, length};
-    ghost use Rattle.std.specs.Option.{option_to_list};
-    ghost use Rattle.mc_catalog.specs.Progress.{Progress};
+    ghost use Rattle.mc_catalog.specs.Progress.{Progress, IsInStep};
 
     ghost Value = { Progress };
 
@@ -48,8 +46,7 @@ impl Model for CatalogBuilder {
       table_lines = builder.table_lines;
     } };
 
-    ghost invariant = { λ builder.
-        length builder.earlier + length (option_to_list builder.last) ≤ length builder.table_lines };
+    ghost invariant = { λ builder. IsInStep builder.earlier builder.last builder.table_lines };
 }
 
 impl CatalogBuilder {
@@ -58,8 +55,8 @@ impl CatalogBuilder {
         ensures { IfOk result (λ builder. builder ≡ nothing_said) }
     {
         Ok(CatalogBuilder {
-            collations: built_in_collations(alloc)?,
-            earlier: List::new(alloc),
+            collations: Named::from_list(alloc, built_in_collations(alloc)?)?,
+            earlier: Named::new(alloc),
             last: None,
             connection: None,
             table_lines: List::new(alloc),
@@ -106,15 +103,15 @@ impl CatalogBuilder {
                 kind,
                 file,
                 rules,
-            } => self.add_collation(name, set, kind, file, rules),
+            } => self.add_collation(alloc, name, set, kind, file, rules),
             Entry::Connection { name } => self.set_connection(name),
             Entry::Table { name, file } => self.add_table(alloc, number, name, file),
-            Entry::Column { name, form } => self.add_column(name, form),
+            Entry::Column { name, form } => self.add_column(alloc, name, form),
             Entry::Index {
                 name,
                 column,
                 prefix,
-            } => self.add_index(name, column, prefix),
+            } => self.add_index(alloc, name, column, prefix),
         }
     }
 
@@ -122,6 +119,7 @@ impl CatalogBuilder {
     #[tactic(auto, unfolding(crate::specs::Progress::declared_of))]
     fn add_collation(
         &mut self,
+        alloc: Global,
         name: Text,
         set: Option<Charset>,
         kind: Option<Kind>,
@@ -143,19 +141,20 @@ impl CatalogBuilder {
         if !kind.suits(charset) {
             return Err(CatalogFaultKind::WrongCharset);
         }
-        if place_of(self.collations.as_slice(), name.as_slice()).is_some() {
+        if self.collations.has(name.as_slice()) {
             return Err(CatalogFaultKind::Repeated);
         }
-        if self.collations.len() >= COLLATIONS {
+        if self.collations.as_slice().len() >= COLLATIONS {
             return Err(CatalogFaultKind::TooMany);
         }
-        self.collations.push(CollDecl {
+        let declared = CollDecl {
             name,
             charset,
             kind,
             file,
             rules,
-        })?;
+        };
+        self.collations.push(alloc, declared)?;
         Ok(())
     }
 
@@ -166,7 +165,7 @@ impl CatalogBuilder {
         ensures added { OnOk result (self.new ≡ record self.old { connection = id_of self.old.collations name }) }
         ensures err { IfErr result (λ fault. IsCausedBy fault (first_of (connection_tests self.old.collations name self.old.connection))) }
     {
-        let Some(id) = id_of(self.collations.as_slice(), name.as_slice()) else {
+        let Some(id) = id_of(&self.collations, name.as_slice()) else {
             return Err(CatalogFaultKind::UnknownCollation);
         };
         if self.connection.is_some() {
@@ -192,30 +191,25 @@ impl CatalogBuilder {
         }) }
         ensures err { IfErr result (λ fault. IsCausedBy fault (first_of (table_tests (tables_of self.old) name))) }
     {
-        self.close_table()?;
-        if has_table(self.earlier.as_slice(), name.as_slice()) {
+        self.close_table(alloc)?;
+        if self.earlier.has(name.as_slice()) {
             return Err(CatalogFaultKind::Repeated);
         }
-        if self.earlier.len() >= TABLES {
+        if self.earlier.as_slice().len() >= TABLES {
             return Err(CatalogFaultKind::TooMany);
         }
         self.table_lines.push(number)?;
-        self.last = Some(TableDecl {
-            name,
-            file,
-            columns: List::new(alloc),
-            indexes: List::new(alloc),
-        });
+        self.last = Some(OpenTable::new(alloc, name, file));
         Ok(())
     }
 
     /// Ends the last table, which then is an earlier one.
-    fn close_table(&mut self) -> Result<(), NoMemory>
+    fn close_table(&mut self, alloc: Global) -> Result<(), NoMemory>
         ensures { OnOk result (self.new ≡ record self.old { earlier = tables_of self.old; last = None }) }
     {
         match self.last.take() {
             Some(table) => {
-                self.earlier.push(table)?;
+                self.earlier.push(alloc, table.close())?;
                 Ok(())
             }
             None => Ok(()),
@@ -223,7 +217,12 @@ impl CatalogBuilder {
     }
 
     /// Adds a column to the last table.
-    fn add_column(&mut self, name: Text, form: ColumnForm) -> Result<(), CatalogFaultKind>
+    fn add_column(
+        &mut self,
+        alloc: Global,
+        name: Text,
+        form: ColumnForm,
+    ) -> Result<(), CatalogFaultKind>
         requires { length self.old.collations < 2 ^ 32 }
         ensures ok { OnOk result (first_of (tests_in (column_tests self.old.collations name form) self.old.last) ≡ None) }
         ensures added { OnOk result (self.new ≡ record self.old {
@@ -232,15 +231,16 @@ impl CatalogBuilder {
         ensures err { IfErr result (λ fault. IsCausedBy fault
             (first_of (tests_in (column_tests self.old.collations name form) self.old.last))) }
     {
-        match &mut self.last {
-            Some(table) => add_column(self.collations.as_slice(), table, name, form),
-            None => Err(CatalogFaultKind::BadLine),
-        }
+        let Some(table) = &mut self.last else {
+            return Err(CatalogFaultKind::BadLine);
+        };
+        table.add_column(alloc, &self.collations, name, form)
     }
 
     /// Adds an index to the last table.
     fn add_index(
         &mut self,
+        alloc: Global,
         name: Text,
         column: Text,
         prefix: Option<u32>,
@@ -252,19 +252,19 @@ impl CatalogBuilder {
         }) }
         ensures err { IfErr result (λ fault. IsCausedBy fault (first_of (tests_in (index_tests name column prefix) self.old.last))) }
     {
-        match &mut self.last {
-            Some(table) => add_index(table, name, column, prefix),
-            None => Err(CatalogFaultKind::BadLine),
-        }
+        let Some(table) = &mut self.last else {
+            return Err(CatalogFaultKind::BadLine);
+        };
+        table.add_index(alloc, name, column, prefix)
     }
 
     /// The catalog of all that was said, or the line of the first table without a column.
-    pub(crate) fn finish(mut self) -> Result<Catalog, CatalogFault>
+    pub(crate) fn finish(mut self, alloc: Global) -> Result<Catalog, CatalogFault>
         ensures ok { IfOk result (λ catalog. bare_place (tables_of self) ≡ None) }
         ensures value { IfOk result (λ catalog. catalog ≡ catalog_of self) }
         ensures err { IfErr result (λ fault. IsEndFault self fault.kind fault.line) }
     {
-        self.close_table()?;
+        self.close_table(alloc)?;
         if let Some(place) = bare_place(self.earlier.as_slice()) {
             return Err(CatalogFault {
                 kind: CatalogFaultKind::NoColumn,
@@ -283,9 +283,17 @@ impl CatalogBuilder {
             table_lines: _,
         } = self;
         Ok(Catalog {
-            collations,
-            tables: earlier,
+            collations: collations.into_list(),
+            tables: earlier.into_list(),
             connection,
         })
     }
+}
+
+/// The place of the first table without a column.
+fn bare_place(tables: &[TableDecl]) -> Option<usize>
+    ensures place { result ≡ bare_place tables.now }
+    ensures within { IfSome result (λ i. i < length tables.now) }
+{
+    tables.iter().position(|table| table.columns.len() == 0)
 }

@@ -10,11 +10,13 @@ mod entry;
 mod fault;
 mod forms;
 mod look_up;
+mod named;
+mod names;
+mod open_table;
 mod plain;
 mod reader;
 #[cfg(test)]
 mod reader_tests;
-mod tables;
 #[cfg(test)]
 mod tests;
 mod words;

@@ -1,6 +1,5 @@
 ghost use Rattle.std.specs.Prelude.{◌≡◌, ◌^◌, ◌<◌, length, option_map, IfSome};
 ghost use Rattle.mc_catalog.specs.LookUp.{number_of, usual_name, IsUsual};
-ghost use Rattle.mc_catalog.specs.Progress.{id_of};
 
 use crate::{Catalog, CollDecl};
 use mc_charset::{Charset, CollId, bin_of};
@@ -10,7 +9,10 @@ pub fn find_collation(catalog: &Catalog, name: &[u8]) -> Option<CollId>
     requires { length catalog.now.collations < 2 ^ 32 }
     ensures { option_map (λ id. id.0) result ≡ number_of catalog.now.collations name.now }
 {
-    id_of(catalog.collations.as_slice(), name)
+    match place_of(catalog.collations.as_slice(), name) {
+        Some(place) => Some(CollId(place as u32)),
+        None => None,
+    }
 }
 
 /// The usual collation of a set, as `utf8mb4_0900_ai_ci` of utf8mb4, where the catalog declares it
@@ -32,19 +34,8 @@ pub fn default_of(catalog: &Catalog, set: Charset) -> CollId
     }
 }
 
-/// The collation of this name.
-pub(crate) fn id_of(collations: &[CollDecl], name: &[u8]) -> Option<CollId>
-    requires { length collations.now < 2 ^ 32 }
-    ensures { result ≡ id_of collations.now name.now }
-{
-    match place_of(collations, name) {
-        Some(place) => Some(CollId(place as u32)),
-        None => None,
-    }
-}
-
 /// The place of the first collation of this name.
-pub(crate) fn place_of(collations: &[CollDecl], name: &[u8]) -> Option<usize>
+fn place_of(collations: &[CollDecl], name: &[u8]) -> Option<usize>
     ensures place { result ≡ number_of collations.now name.now }
     ensures within { IfSome result (λ i. i < length collations.now) }
 {

@@ -21,7 +21,7 @@ pub fn read_catalog(alloc: Global, text: &[u8]) -> Result<Catalog, CatalogFault>
     ensures refused { IfErr result (λ fault. IsRefused (lines_of text.now) fault.kind fault.line) }
 {
     let builder = read_lines(alloc, text)?;
-    builder.finish()
+    builder.finish(alloc)
 }
 
 /// What all lines say.
