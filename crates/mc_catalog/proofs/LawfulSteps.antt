@@ -1,6 +1,6 @@
 -- A lawful catalog stays lawful with each entry that has no fault.
-use Rattle.std.proofs.Common.{◌≡◌, ◌≢◌, ℕ, zero, suc, ◌+◌, ◌^◌, ◌<◌, ◌≤◌, ◌==◌, nat_le, nat_lt, Bool, true, false, not, ◌&&◌, cond, IsTrue, List, [], ◌∷◌, ◌++◌, length, map, take, drop, get_or, Option, None, Some, option_map, Result, Ok, Err, OnOk, refl, sym, subst, ap, ◌∙◌, arith}
-use Rattle.std.specs.List.{list_any, position, slice_get, All, find}
+use Rattle.std.proofs.Common.{◌≡◌, ℕ, ◌^◌, ◌<◌, ◌≤◌, nat_le, Bool, true, false, not, cond, IsTrue, List, [], ◌∷◌, ◌++◌, length, map, take, drop, Option, None, Some, option_map, Result, Ok, Err, OnOk, refl, subst, ap, arith}
+use Rattle.std.specs.List.{list_any, slice_get}
 use Rattle.std.specs.Option.{is_some, is_none, IfSome, IsSomeAnd, option_and_then, option_to_list, unwrap_or}
 use Rattle.std.specs.Str.{bytes_eq}
 use Rattle.std.proofs.lemmas.List.{map-append, length-append, length-take, take-append-le, drop-append-le}
@@ -12,7 +12,7 @@ use Rattle.mc_charset.specs.declared.charset.Charset.{Charset}
 use Rattle.mc_charset.specs.declared.charset.Charset.TheVariants.{Latin1}
 use Rattle.mc_charset.specs.declared.collation_id.CollId.{CollId}
 use Rattle.mc_catalog.specs.declared.catalog.Kind.TheVariants.{Bin}
-use Rattle.mc_catalog.specs.declared.fault.CatalogFaultKind.TheVariants.{UnknownCharset, UnknownKind, WrongCharset, UnknownCollation, UnknownColumn, BadLength, Repeated, TooMany}
+use Rattle.mc_catalog.specs.declared.fault.CatalogFaultKind.TheVariants.{WrongCharset, UnknownCollation, UnknownColumn, BadLength, Repeated, TooMany}
 use Rattle.mc_catalog.specs.Entries.{may_have_rules}
 use Rattle.mc_catalog.specs.declared.catalog.Kind.{Kind}
 use Rattle.mc_catalog.specs.declared.catalog.CollDecl.{CollDecl}
@@ -27,11 +27,11 @@ use Rattle.mc_catalog.specs.declared.entry.Entry.{Entry}
 use Rattle.mc_catalog.specs.declared.entry.Entry.TheVariants.{Collation, Connection, Table, Column, Index}
 use Rattle.mc_catalog.specs.declared.fault.CatalogFaultKind.{CatalogFaultKind}
 use Rattle.mc_catalog.specs.BuiltIn.{built_in_collations}
-use Rattle.mc_catalog.specs.Lawful.{IsLawful, IsLawfulTable, IsLawfulType, IsLawfulCollation, IsLawfulIndex, AreApart, suits, takes_rules, width_of}
+use Rattle.mc_catalog.specs.Lawful.{IsLawful, IsLawfulTable, IsLawfulType, IsLawfulCollation, IsLawfulIndex, AreApart, suits, width_of}
 use Rattle.mc_catalog.specs.LookUp.{number_of}
-use Rattle.mc_catalog.specs.Formed.{IsFormed, IsFormedColumn, IsFormedType}
+use Rattle.mc_catalog.specs.Formed.{IsFormed, IsFormedColumn}
 use Rattle.mc_catalog.specs.Progress.{Progress, tables_of, declared_of, id_of, type_of, with_column, column_named, width_at, indexed_column, with_index, with_entry, catalog_of}
-use Rattle.mc_catalog.specs.CatalogFaults.{Tests, first_of, collation_tests, connection_tests, table_tests, column_tests, index_tests, tests_in, tests_of, indexed_width, is_bad_length}
+use Rattle.mc_catalog.specs.CatalogFaults.{first_of, collation_tests, table_tests, column_tests, index_tests, tests_in, tests_of, indexed_width, is_bad_length}
 use Rattle.mc_catalog.proofs.Lists.{apart_more, kept_at}
 
 -- Where the first of two tests to find a fault is none, neither finds one.

@@ -3,3 +3,4 @@ pub mod Sets
 pub mod Lists
 pub mod LawfulSteps
 pub mod LinesRead
+pub mod OneOutcome

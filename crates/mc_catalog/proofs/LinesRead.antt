@@ -1,10 +1,9 @@
 -- The lines of a catalog, read one after the other.
-use Rattle.std.proofs.Common.{◌≡◌, ℕ, List, [], ◌∷◌, ◌++◌, Option, None, Some, option_map, refl, sym, ap, subst, ◌∙◌, append_assoc}
+use Rattle.std.proofs.Common.{◌≡◌, ℕ, List, [], ◌∷◌, ◌++◌, None, Some, option_map, refl, sym, ap, subst, ◌∙◌, append_assoc}
 use Rattle.std.proofs.lemmas.List.{append-nil}
 use Rattle.std.proofs.lemmas.List.Sums.{fold-append}
 use Rattle.mc_base.specs.FirstFault.{HasNoFault, IsFirstFault}
 use Rattle.mc_base.proofs.FirstFaultLemmas.{no_fault-none, no_fault-more, first_fault-behind}
-use Rattle.mc_catalog.specs.declared.fault.CatalogFault.{CatalogFault}
 use Rattle.mc_catalog.specs.declared.fault.CatalogFaultKind.{CatalogFaultKind}
 use Rattle.mc_catalog.specs.declared.fault.CatalogFaultKind.TheVariants.{BadLine, UnknownCharset, UnknownKind, WrongCharset, UnknownCollation, UnknownColumn, BadLength, Repeated, TooMany, NoColumn, NoMemory}
 use Rattle.mc_catalog.specs.Lawful.{IsLawful}

@@ -1,5 +1,5 @@
 -- Lists with one member more: what they keep.
-use Rattle.std.proofs.Common.{◌≡◌, ◌≢◌, ℕ, zero, suc, ◌+◌, ◌<◌, ◌≤◌, Bool, true, false, ◌||◌, List, [], ◌∷◌, ◌++◌, length, map, take, get_or, ◌⊎◌, inl, inr, nat_lt, Option, None, Some, cond, refl, sym, ap, ◌∙◌, arith}
+use Rattle.std.proofs.Common.{◌≡◌, ◌≢◌, ℕ, zero, suc, ◌+◌, ◌<◌, Bool, true, false, ◌||◌, List, [], ◌∷◌, ◌++◌, length, map, take, get_or, nat_lt, None, Some, cond, refl, sym, ap, ◌∙◌, arith}
 use Rattle.std.specs.List.{list_any, position, position_or_len, slice_get}
 use Rattle.std.specs.Option.{is_some, IsSomeAnd}
 use Rattle.std.specs.Str.{bytes_eq}
@@ -119,7 +119,7 @@ place_of_key name_of keys name =
 pub name_added : {X : Type 0} (name_of : X → List ℕ) (xs new : List X) (x : X) (names : List (List ℕ)) (name : List ℕ) → map name_of xs ≡ names → name_of x ≡ name → list_any (λ other. bytes_eq other name) names ≡ false → new ≡ cond (list_any (λ other. bytes_eq (name_of x) (name_of other)) xs) xs (xs ++ x ∷ []) → map name_of new ≡ names ++ name ∷ []
 name_added name_of xs new x names name all own none added =
     let away : is_some (position (λ other. bytes_eq name (name_of other)) xs) ≡ false =
-      ap is_some (place_of_key name_of xs name) ∙ any_placed (λ other. bytes_eq other name) (map name_of xs) ∙ rw all none in
+    ap is_some (place_of_key name_of xs name) ∙ any_placed (λ other. bytes_eq other name) (map name_of xs) ∙ rw all none in
     let absent : list_any (λ other. bytes_eq name (name_of other)) xs ≡ false = none_placed (λ other. bytes_eq name (name_of other)) xs away in
     let grown : new ≡ xs ++ x ∷ [] = added ∙ rw (own, absent) refl in
     rw (grown, map-append name_of xs (x ∷ []), all, own) refl

@@ -16,7 +16,7 @@ use Rattle.mc_catalog.specs.declared.entry.Entry.TheVariants.{Collation, Connect
 use Rattle.mc_catalog.specs.declared.fault.CatalogFault.{CatalogFault}
 use Rattle.mc_catalog.specs.declared.fault.CatalogFaultKind.{CatalogFaultKind}
 use Rattle.mc_catalog.specs.declared.fault.CatalogFaultKind.TheVariants.{BadLine, UnknownCharset, UnknownKind, WrongCharset, UnknownCollation, UnknownColumn, BadLength, Repeated, TooMany, NoColumn, NoMemory}
-use Rattle.mc_catalog.specs.Lawful.{suits, width_of}
+use Rattle.mc_catalog.specs.Lawful.{suits}
 use Rattle.mc_catalog.specs.LookUp.{number_of}
 use Rattle.mc_catalog.specs.Entries.{entry_of}
 use Rattle.mc_catalog.specs.Progress.{Progress, tables_of, type_of, column_named, width_at, indexed_column, said_by}

@@ -1,12 +1,12 @@
 -- What the form of a line alone makes sure of: lengths within the limits, rules where they may be.
-use Rattle.std.specs.Prelude.{◌≤◌, ⊤, ℕ, Bool, IsTrue, Option, IfSome}
+use Rattle.std.specs.Prelude.{◌≤◌, ⊤, IsTrue, IfSome}
 use Rattle.mc_catalog.specs.Entries.{may_have_rules}
 use Rattle.mc_catalog.specs.declared.catalog.ColumnType.{ColumnType}
 use Rattle.mc_catalog.specs.declared.catalog.ColumnType.TheVariants.{BigInt, Binary, VarBinary, Char as TypeChar, VarChar as TypeVarChar}
 use Rattle.mc_catalog.specs.declared.entry.ColumnForm.{ColumnForm}
 use Rattle.mc_catalog.specs.declared.entry.ColumnForm.TheVariants.{Plain, Char, VarChar}
 use Rattle.mc_catalog.specs.declared.entry.Entry.{Entry}
-use Rattle.mc_catalog.specs.declared.entry.Entry.TheVariants.{Collation, Connection, Table, Column, Index}
+use Rattle.mc_catalog.specs.declared.entry.Entry.TheVariants.{Collation, Column}
 
 -- A type without a collation has a length within its limit.
 abbrev pub IsFormedType : ColumnType → Type 0

@@ -1,9 +1,8 @@
 -- The words of a catalog's lines: names, decimal numbers, character sets and kinds of collations.
-use Rattle.std.specs.Prelude.{ℕ, ◌+◌, ◌-◌, ◌*◌, ◌==◌, ◌&&◌, ◌||◌, min, nat_le, Bool, true, false, not, List, [], ◌∷◌, length, map, fold, codes, Option, None, Some, option_map, if◌then◌else◌}
+use Rattle.std.specs.Prelude.{ℕ, ◌+◌, ◌-◌, ◌*◌, ◌==◌, ◌&&◌, ◌||◌, min, nat_le, Bool, false, not, List, [], ◌∷◌, length, map, fold, codes, Option, None, Some, option_map, if◌then◌else◌}
 use Rattle.std.specs.List.{find, list_all}
 use Rattle.std.specs.Char.{is_ascii_alphanumeric, is_ascii_digit, to_ascii_lowercase}
 use Rattle.std.specs.Str.{bytes_eq}
-use Rattle.mc_charset.specs.Names as set
 use Rattle.mc_charset.specs.declared.charset.Charset.{Charset}
 use Rattle.mc_charset.specs.declared.charset.Charset.TheVariants.{Latin1, Ascii, Utf8mb3, Utf8mb4, Ucs2, Utf16, Utf32, Binary}
 use Rattle.mc_catalog.specs.declared.catalog.Kind.{Kind}

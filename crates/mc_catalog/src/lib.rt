@@ -9,6 +9,7 @@ mod catalog;
 mod entry;
 mod fault;
 mod forms;
+mod laws;
 mod look_up;
 mod named;
 mod names;
@@ -23,6 +24,7 @@ mod words;
 
 pub use catalog::{Catalog, CollDecl, ColumnDecl, ColumnType, IndexDecl, Kind, TableDecl};
 pub use fault::{CatalogFault, CatalogFaultKind};
+pub use laws::outcome_law;
 pub use look_up::{default_of, find_collation};
 pub use plain::plain_catalog;
 pub use reader::read_catalog;

@@ -34,10 +34,10 @@ impl Model for OpenTable {
     ghost Value = { TableDecl };
 
     ghost view = { λ table. record {
-        name = table.name;
-        file = table.file;
-        columns = table.columns;
-        indexes = table.indexes
+      name = table.name;
+      file = table.file;
+      columns = table.columns;
+      indexes = table.indexes;
     } };
 }
 

@@ -1,5 +1,4 @@
 -- Each line without a fault adds its entry; the first one with a fault is told.
-use Rattle.std.proofs.Common.{◌≡◌, ◌∷◌, IfErr}
 use Rattle.mc_base.specs.Lines.{lines_of}
 use Rattle.mc_catalog.proofs.LinesRead.{none_read, one_read, refused_read}
 use Rattle.mc_catalog.proofs.reader.read_lines.Goals as goal

@@ -1,8 +1,5 @@
 -- The catalog stays lawful with the line's entry.
-use Rattle.mc_catalog.specs.Formed.{IsFormed}
 use Rattle.mc_catalog.proofs.LawfulSteps.{lawful_added}
-use Rattle.std.specs.Option.{IfSome}
-use Rattle.std.proofs.Common.{subst}
 use Rattle.mc_catalog.proofs.builder.CatalogBuilder.add_line.Goals as goal
 
 pub returns-in-Some-clause-lawful : goal.returns-in-Some-clause-lawful
