@@ -1,0 +1,10 @@
+pub mod Bytes
+pub mod SameChar
+pub mod FillLemmas
+pub mod ListingLemmas
+pub mod ReadLemmas
+pub mod EntryLemmas
+pub mod RangeLemmas
+pub mod LawLemmas
+pub mod StandardFacts
+pub mod OutcomeLemmas

@@ -1,0 +1,17 @@
+pub mod Table8
+pub mod General
+pub mod Formats
+pub mod Fields
+pub mod Runs
+pub mod WeightLines
+pub mod Listing
+pub mod LineFaults
+pub mod Cells
+pub mod Table8File
+pub mod GeneralFile
+pub mod WeightFileLaws
+pub mod Outcome
+pub mod Table8Meaning
+pub mod GeneralMeaning
+pub mod Table8Laws
+pub mod GeneralLaws
