@@ -1,0 +1,5 @@
+pub mod Any
+pub mod FileOutcome
+pub mod BookOutcome
+pub mod Told
+pub mod Meanings

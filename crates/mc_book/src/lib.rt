@@ -1,0 +1,31 @@
+//! The collations of a catalog, of every kind, and the book of them that its files give.
+//!
+//! `AnyCollation` is a collation of one of the kinds: a built-in one of `mc_order`, or one by a
+//! table of `mc_table8`. `specs/Any.antt` says what each means; it keeps the laws of a collation
+//! (`mc_order`) because each kind does: `any.compare(a, b)` is the order of two texts by the kind
+//! that `any` has.
+//!
+//! `build_book(alloc, &catalog, &mut files)` reads the table of each declared collation, in the
+//! order of the catalog; `specs/BookOutcome.antt` says what the files give, or which one is refused.
+//!
+//! Read `any_collation` and `book`; then `fault`, `file`, `table` and `build`.
+#![tactic(auto)]
+
+mod any_collation;
+mod book;
+#[cfg(test)]
+mod book_tests;
+mod build;
+mod fault;
+mod file;
+mod kinds;
+mod table;
+#[cfg(test)]
+mod tests;
+
+pub use any_collation::AnyCollation;
+pub use book::AnyBook;
+pub use build::build_book;
+pub use fault::{BookFault, refused};
+pub use file::read_file;
+pub use kinds::declares_built_kinds;
