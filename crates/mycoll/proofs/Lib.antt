@@ -1,4 +1,11 @@
 pub mod AnsweringSteps
-pub mod Comparisons
+pub mod CatalogSteps
+pub mod CollationChoice
+pub mod LiteralSteps
+pub mod OpeningSteps
+pub mod Reserved
 pub mod RunSteps
+pub mod SetNaming
+pub mod ValueSteps
 pub mod StandardFacts
+pub mod WantedSteps

@@ -3,7 +3,7 @@ use Rattle.std.proofs.Common.{◌≡◌, ℕ, Bool, true, false, List, [], ◌�
 use Rattle.std.proofs.lemmas.List.{append-nil}
 use Rattle.std.proofs.lemmas.List.Folds.{flat_map-map}
 use Rattle.mc_base.specs.Sink.{appended}
-use Rattle.mc_order.specs.Meaning.{Meaning}
+use Rattle.mycoll.specs.Setting.{Setting}
 use Rattle.mycoll.specs.declared.answer.Answer.{Answer}
 use Rattle.mycoll.specs.declared.status.Status.{Status}
 use Rattle.mycoll.specs.declared.status.Status.TheVariants.{Done, SomeRefused, Usage, FilesRefused, ReadFault, WriteFault, NoMemory}
@@ -12,10 +12,10 @@ use Rattle.mycoll.specs.declared.output.Stopped.TheVariants.{Fault, NoMemory as 
 use Rattle.mycoll.specs.Answers.{answers, answers_text}
 use Rattle.mycoll.specs.Answering.{AnswersWritten, Written}
 use Rattle.mc_base.specs.declared.refusal.FileRefusal.{FileRefusal}
-use Rattle.mycoll.specs.Outcome.{script_outcome, refused_line}
+use Rattle.mycoll.specs.Outcome.{Accepted, files_outcome, refused_line}
 use Rattle.std.specs.Option.{option_map}
-use Rattle.mycoll.specs.Words.{script_word, usage_line}
-use Rattle.mycoll.specs.Run.{Plan, plan, files_plan, whole, one_line, script_plan, HasWritten, IsComplete, ReadCause, WriteCause, answered_status, line_status}
+use Rattle.mycoll.specs.Words.{Named, named_files, usage_line}
+use Rattle.mycoll.specs.Run.{Plan, plan, files_plan, setting_of, whole, one_line, script_plan, HasWritten, IsComplete, ReadCause, WriteCause, answered_status, line_status}
 use Rattle.mycoll.proofs.AnsweringSteps.{appended-nil}
 
 whole-texts : (all : List Answer)
@@ -30,7 +30,7 @@ take-texts (suc n) [] = refl
 take-texts (suc n) (a ∷ all) = ap (λ xs. a.text ∷ xs) (take-texts n all)
 
 -- The answers that were written carry out the plan of their script.
-pub answers_carried : (m : Meaning) (script : List ℕ) (r : Result Bool Stopped) (before after : Option (List ℕ))
+pub answers_carried : (m : Setting) (script : List ℕ) (r : Result Bool Stopped) (before after : Option (List ℕ))
     → AnswersWritten (answers m script) r before after
     → HasWritten (script_plan m script) (answered_status r) before after
 unfolding script_plan
@@ -80,64 +80,69 @@ pub nothing_carried : (p : Plan) (before : Option (List ℕ)) → HasWritten p N
 nothing_carried p before = (0, sym (appended-nil before))
 
 -- The plan of the files is that of their outcome.
-pub plan-script : (m : Meaning) (files : List ℕ → Option (List ℕ)) (name script : List ℕ)
-    → script_outcome files name ≡ Ok script → files_plan m files name ≡ script_plan m script
+plan-accepted : (files : List ℕ → Option (List ℕ)) (named : Named) (accepted : Accepted)
+    → files_outcome files named ≡ Ok accepted → files_plan files named ≡ script_plan (setting_of accepted) accepted.script
 unfolding files_plan
-plan-script m files name script e =
-    ap (λ (o : Result (List ℕ) FileRefusal). elim o as (λ _. Plan) [
-      | Ok s ↦ script_plan m s
+plan-accepted files named accepted e =
+    ap (λ (o : Result Accepted FileRefusal). elim o as (λ _. Plan) [
+      | Ok a ↦ script_plan (setting_of a) a.script
       | Err r ↦ one_line (refused_line r) FilesRefused
     ]) e
 
-pub plan-refusal : (m : Meaning) (files : List ℕ
-    → Option (List ℕ)) (name : List ℕ) (refusal : FileRefusal)
-    → script_outcome files name ≡ Err refusal
-    → files_plan m files name ≡ one_line (refused_line refusal) FilesRefused
+plan-refusal : (files : List ℕ → Option (List ℕ)) (named : Named) (refusal : FileRefusal)
+    → files_outcome files named ≡ Err refusal → files_plan files named ≡ one_line (refused_line refusal) FilesRefused
 unfolding files_plan
-plan-refusal m files name refusal e =
-    ap (λ (o : Result (List ℕ) FileRefusal). elim o as (λ _. Plan) [
-      | Ok s ↦ script_plan m s
+plan-refusal files named refusal e =
+    ap (λ (o : Result Accepted FileRefusal). elim o as (λ _. Plan) [
+      | Ok a ↦ script_plan (setting_of a) a.script
       | Err r ↦ one_line (refused_line r) FilesRefused
     ]) e
 
--- An accepted script that was answered so.
-pub script_run : (m : Meaning) (told : Option (List ℕ
-    → Option (List ℕ))) (name script : List ℕ) (r : Result Bool Stopped) (status : Status) (before after : Option (List ℕ))
-    → IfSome told (λ files. script_outcome files name ≡ Ok script) → status ≡ answered_status r
-    → AnswersWritten (answers m script) r before after
-    → IfSome told (λ files. HasWritten (files_plan m files name) status before after)
-script_run m None name script r status before after h e w = tt
-script_run m (Some files) name script r status before after h e w =
-    subst (λ (p : Plan). HasWritten p status before after) (sym (plan-script m files name script h))
-    (subst (λ (s : Status). HasWritten (script_plan m script) s before after) (sym e) (answers_carried m script r before after w))
+-- Accepted files whose script was answered so.
+pub script_run : (told : Option (List ℕ → Option (List ℕ))) (named : Named) (accepted : Accepted) (r : Result Bool Stopped) (status : Status) (before after : Option (List ℕ))
+    → IfSome told (λ files. files_outcome files named ≡ Ok accepted) → status ≡ answered_status r
+    → AnswersWritten (answers (setting_of accepted) accepted.script) r before after
+    → IfSome told (λ files. HasWritten (files_plan files named) status before after)
+script_run None named accepted r status before after h e w = tt
+script_run (Some files) named accepted r status before after h e w =
+    subst (λ (p : Plan). HasWritten p status before after) (sym (plan-accepted files named accepted h))
+    (subst (λ (s : Status). HasWritten (script_plan (setting_of accepted) accepted.script) s before after) (sym e)
+    (answers_carried (setting_of accepted) accepted.script r before after w))
 
 -- A refused file whose line was written so.
-pub refusal_run : (m : Meaning) (told : Option (List ℕ
-    → Option (List ℕ))) (name : List ℕ) (refusal : FileRefusal) (r : Result (Unit {0}) Stopped) (status : Status) (before after : Option (List ℕ))
-    → IfSome told (λ files. script_outcome files name ≡ Err refusal)
+pub refusal_run : (told : Option (List ℕ → Option (List ℕ))) (named : Named) (refusal : FileRefusal) (r : Result (Unit {0}) Stopped) (status : Status) (before after : Option (List ℕ))
+    → IfSome told (λ files. files_outcome files named ≡ Err refusal)
     → status ≡ line_status FilesRefused r → Written (refused_line refusal) r before after
-    → IfSome told (λ files. HasWritten (files_plan m files name) status before after)
-refusal_run m None name refusal r status before after h e w = tt
-refusal_run m (Some files) name refusal r status before after h e w =
-    subst (λ (p : Plan). HasWritten p status before after) (sym (plan-refusal m files name refusal h))
+    → IfSome told (λ files. HasWritten (files_plan files named) status before after)
+refusal_run None named refusal r status before after h e w = tt
+refusal_run (Some files) named refusal r status before after h e w =
+    subst (λ (p : Plan). HasWritten p status before after) (sym (plan-refusal files named refusal h))
     (subst (λ (s : Status). HasWritten (one_line (refused_line refusal) FilesRefused) s before after) (sym e) (refusal_carried (refused_line refusal) r before after w))
 
--- No file was read, or no memory was left: nothing was written.
-pub nothing_run : (m : Meaning) (told : Option (List ℕ
-    → Option (List ℕ))) (name : List ℕ) (before : Option (List ℕ))
-    → IfSome told (λ files. HasWritten (files_plan m files name) NoMemory before before)
-nothing_run m None name before = tt
-nothing_run m (Some files) name before = nothing_carried (files_plan m files name) before
-
 -- Words of no form, whose usage line was written so.
-pub usage_run : (m : Meaning) (told : Option (List ℕ
-    → Option (List ℕ))) (words : List (List ℕ)) (r : Result (Unit {0}) Stopped) (status : Status) (before after : Option (List ℕ))
-    → script_word words ≡ None → status ≡ line_status Usage r → Written usage_line r before after
-    → IfSome (plan m told words) (λ p. HasWritten p status before after)
+pub usage_run : (told : Option (List ℕ → Option (List ℕ))) (words : List (List ℕ)) (r : Result (Unit {0}) Stopped) (status : Status) (before after : Option (List ℕ))
+    → named_files words ≡ None → status ≡ line_status Usage r → Written usage_line r before after
+    → IfSome (plan told words) (λ p. HasWritten p status before after)
 unfolding plan
-usage_run m told words r status before after h e w =
-    subst (λ (o : Option (List ℕ)). IfSome (elim o as (λ _. Option Plan) [ None ↦ Some (one_line usage_line Usage) | Some name ↦ option_map (λ (files : List ℕ → Option (List ℕ)). files_plan m files name) told ]) (λ p. HasWritten p status before after)) (sym h)
+usage_run told words r status before after h e w =
+    subst (λ (o : Option Named). IfSome (elim o as (λ _. Option Plan) [ None ↦ Some (one_line usage_line Usage) | Some named ↦ option_map (λ (files : List ℕ → Option (List ℕ)). files_plan files named) told ]) (λ p. HasWritten p status before after)) (sym h)
     (subst (λ (s : Status). HasWritten (one_line usage_line Usage) s before after) (sym e) (usage_carried usage_line r before after w))
+
+planned : (told : Option (List ℕ → Option (List ℕ))) (named : Named) (status : Status) (before after : Option (List ℕ))
+    → IfSome told (λ files. HasWritten (files_plan files named) status before after)
+    → IfSome (option_map (λ (files : List ℕ → Option (List ℕ)). files_plan files named) told) (λ p. HasWritten p status before after)
+planned None named status before after h = tt
+planned (Some files) named status before after h = h
+
+-- Words of a form, whose files were answered so.
+pub named_run : (told : Option (List ℕ → Option (List ℕ))) (words : List (List ℕ)) (named : Named) (status : Status) (before after : Option (List ℕ))
+    → named_files words ≡ Some named
+    → IfSome told (λ files. HasWritten (files_plan files named) status before after)
+    → IfSome (plan told words) (λ p. HasWritten p status before after)
+unfolding plan
+named_run told words named status before after h w =
+    subst (λ (o : Option Named). IfSome (elim o as (λ _. Option Plan) [ None ↦ Some (one_line usage_line Usage) | Some n ↦ option_map (λ (files : List ℕ → Option (List ℕ)). files_plan files n) told ]) (λ p. HasWritten p status before after)) (sym h)
+    (planned told named status before after w)
 
 -- A run that wrote so, and failed only where a device did, ends as its plan does where none did.
 pub complete : (p : Plan) (status : Status) (before after : Option (List ℕ)) (reads reads' writes writes' : ℕ)

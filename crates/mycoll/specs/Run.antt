@@ -3,22 +3,16 @@ use Rattle.std.specs.Prelude.{◌≡◌, ◌⊎◌, ℕ, Bool, List, [], ◌∷�
 use Rattle.std.specs.List.{flat_map}
 use Rattle.mc_base.specs.Faults.{Rose}
 use Rattle.mc_base.specs.Sink.{appended}
-use Rattle.mc_charset.specs.declared.charset.Charset.TheVariants.{Utf8mb4}
-use Rattle.mc_order.specs.declared.pad.Pad.TheVariants.{PadSpace}
-use Rattle.mc_order.specs.Meaning.{Meaning}
-use Rattle.mc_order.specs.Bin.{bin_meaning}
+use Rattle.mc_book.specs.Meanings.{meaning_at}
+use Rattle.mycoll.specs.Setting.{Setting, setting}
 use Rattle.mycoll.specs.declared.answer.Answer.{Answer}
 use Rattle.mycoll.specs.declared.status.Status.{Status}
 use Rattle.mycoll.specs.declared.status.Status.TheVariants.{Done, SomeRefused, Usage, FilesRefused, ReadFault, WriteFault, NoMemory}
 use Rattle.mycoll.specs.declared.output.Stopped.{Stopped}
 use Rattle.mycoll.specs.declared.output.Stopped.TheVariants.{Fault, NoMemory as OutOfMemory}
-use Rattle.mycoll.specs.Words.{script_word, usage_line}
-use Rattle.mycoll.specs.Outcome.{script_outcome, refused_line}
+use Rattle.mycoll.specs.Words.{Named, named_files, usage_line}
+use Rattle.mycoll.specs.Outcome.{Accepted, files_outcome, refused_line}
 use Rattle.mycoll.specs.Answers.{answers, some_refused}
-
--- The collation of the connection, `utf8mb4_bin`.
-abbrev pub utf8mb4_bin : Meaning
-utf8mb4_bin = bin_meaning (Utf8mb4, PadSpace)
 
 -- What is to be written, in the parts that are written whole or not at all where memory runs
 -- out, and how a run ends that has written them all.
@@ -34,24 +28,28 @@ abbrev pub one_line : List ℕ → Status → Plan
 one_line line status = record { parts = line ∷ []; status = status }
 
 -- A script's answers, a part each.
-unfoldable pub script_plan : Meaning → List ℕ → Plan
-script_plan m script = record {
-  parts = map (λ (answer : Answer). answer.text) (answers m script);
-  status = if some_refused (answers m script) then SomeRefused else Done;
+unfoldable pub script_plan : Setting → List ℕ → Plan
+script_plan s script = record {
+  parts = map (λ (answer : Answer). answer.text) (answers s script);
+  status = if some_refused (answers s script) then SomeRefused else Done;
 }
 
+-- The setting of what was accepted.
+abbrev pub setting_of : Accepted → Setting
+setting_of accepted = setting accepted.catalog (meaning_at accepted.meanings)
+
 -- A refused file gives one line, and an accepted script its answers.
-unfoldable pub files_plan : Meaning → (List ℕ → Option (List ℕ)) → List ℕ → Plan
-files_plan m files name = elim (script_outcome files name) [
-  | Ok script ↦ script_plan m script
+unfoldable pub files_plan : (List ℕ → Option (List ℕ)) → Named → Plan
+files_plan files named = elim (files_outcome files named) [
+  | Ok accepted ↦ script_plan (setting_of accepted) accepted.script
   | Err refusal ↦ one_line (refused_line refusal) FilesRefused
 ]
 
 -- The plan for some words, over what is told of the files. Words of no form need no files.
-unfoldable pub plan : Meaning → Option (List ℕ → Option (List ℕ)) → List (List ℕ) → Option Plan
-plan m told words = elim (script_word words) [
+unfoldable pub plan : Option (List ℕ → Option (List ℕ)) → List (List ℕ) → Option Plan
+plan told words = elim (named_files words) [
   | None ↦ Some (one_line usage_line Usage)
-  | Some name ↦ option_map (λ files. files_plan m files name) told
+  | Some named ↦ option_map (λ files. files_plan files named) told
 ]
 
 -- All of the plan was written, and its status is this one.
@@ -97,14 +95,14 @@ WriteCause ReadFault faults faults' = ⊤
 WriteCause NoMemory faults faults' = ⊤
 
 -- The usage line is for words of no form alone, and files are opened for words of a form alone.
-abbrev pub FitsWords : Option (List ℕ) → Status → Type 0
-FitsWords script Usage = script ≡ None
-FitsWords script Done = IsSome script
-FitsWords script SomeRefused = IsSome script
-FitsWords script FilesRefused = IsSome script
-FitsWords script ReadFault = IsSome script
-FitsWords script WriteFault = ⊤
-FitsWords script NoMemory = ⊤
+abbrev pub FitsWords : Option Named → Status → Type 0
+FitsWords named Usage = named ≡ None
+FitsWords named Done = IsSome named
+FitsWords named SomeRefused = IsSome named
+FitsWords named FilesRefused = IsSome named
+FitsWords named ReadFault = IsSome named
+FitsWords named WriteFault = ⊤
+FitsWords named NoMemory = ⊤
 
 -- How a run ends that answered a script so.
 abbrev pub answered_status : Result Bool Stopped → Status

@@ -3,10 +3,21 @@ use Rattle.std.specs.Prelude.{ℕ, List, [], ◌∷◌, Option, Some, None, nat_
 use lib.Pointwise.{pointwise}
 use Rattle.mycoll.specs.Print.{line}
 
--- The script that the words name: one word, which isn't `--make`. No other words are a form today.
-abbrev pub script_word : List (List ℕ) → Option (List ℕ)
-script_word (word ∷ []) = if pointwise nat_eq word (codes "--make") then None else Some word
-script_word words = None
+-- The files that words of a form name: a catalog, if one is there, and a script.
+pub record Named : Type 0 where
+  pub catalog : Option (List ℕ)
+  pub script : List ℕ
+
+-- These words, unless the first is `--make`.
+abbrev pub unless_make : List ℕ → Named → Option Named
+unless_make word named = if pointwise nat_eq word (codes "--make") then None else Some named
+
+-- The files that the words name: a script, or a catalog and a script. No other words are a form
+-- today.
+abbrev pub named_files : List (List ℕ) → Option Named
+named_files (script ∷ []) = unless_make script (record { catalog = None; script = script })
+named_files (catalog ∷ script ∷ []) = unless_make catalog (record { catalog = Some catalog; script = script })
+named_files words = None
 
 -- What words of no form are answered with.
 abbrev pub usage_line : List ℕ

@@ -1,21 +1,37 @@
 //! `mycoll`: the answers of MySQL 8.0's rules for strings to a script of SQL statements.
 //!
 //! `run` carries the theorem of the program: the bytes written are the answers to the script's
-//! statements, in order. Its definitions stand in `specs/`: read `Words`, `Outcome`, `Comparison`,
-//! `Answers`, `Print` and `Run` in that order. In `src/` a statement goes through `script`,
-//! `comparison`, `answer`, `answering` and `output`.
+//! statements, in order. Its definitions stand in `specs/`: read `Words`, `Outcome`, `Literals`,
+//! `Queries`, `Values`, `Answers`, `Print` and `Run` in that order. In `src/` the files go through
+//! `words`, `catalog_file`, `script` and `opening`, and a statement through `literal`, `query`,
+//! `values`, `cells`, `answer`, `answering` and `output`.
 #![tactic(auto)]
 
 mod answer;
 mod answering;
-mod comparison;
+mod catalog_file;
+#[cfg(test)]
+mod catalog_tests;
+mod cells;
+mod engine;
+mod literal;
+mod marks;
+mod messages;
+mod opening;
+mod operand_value;
 mod output;
 mod print;
+mod query;
 mod run;
 mod script;
+#[cfg(test)]
+mod script_tests;
+mod set_names;
 mod status;
 #[cfg(test)]
 mod tests;
+mod unanswered;
+mod values;
 mod words;
 
 use crate::run::run;
@@ -26,7 +42,7 @@ use std::process::ExitCode;
 
 /// Marks the counter of comparisons.
 #[derive(Drop)]
-struct Compared;
+struct OperandValue;
 
 /// Marks the counter of rows that are fetched.
 #[derive(Drop)]
@@ -39,7 +55,7 @@ fn main(rt: HostRuntime) -> ExitCode {
             words.as_slice(),
             &mut RealFiles::new(rt),
             &mut RealSink::new(rt),
-            &mut Steps::start(Compared),
+            &mut Steps::start(OperandValue),
             &mut Steps::start(Fetched),
         ),
         Err(NoMemory) => Status::NoMemory,

@@ -1,9 +1,13 @@
-ghost use Rattle.std.specs.Prelude.{◌≡◌, ◌++◌, OnOk, IfOk, codes};
-ghost use Rattle.mycoll.specs.Print.{escaped, refusal_line};
+ghost use Rattle.mc_charset.specs.Chars.{IsWellFormed};
+ghost use Rattle.mc_convert.specs.Conversion.{is_binary};
 ghost use Rattle.mycoll.specs.Outcome.{refused_line};
+ghost use Rattle.mycoll.specs.Print.{escaped, text_cell, cell, refusal_line};
+ghost use Rattle.std.specs.Prelude.{◌≡◌, ◌++◌, OnOk, IfOk, IfSome, codes};
 
+use crate::values::{converted_text, push_hex};
 use itoa::Buffer;
 use mc_base::{FileRefusal, NoMemory, Refusal, Text};
+use mc_charset::Charset;
 use std::alloc::Global;
 
 /// Appends a header or a text as it is written.
@@ -23,9 +27,37 @@ pub fn push_escaped(out: &mut Text, text: &[u8]) -> Result<(), NoMemory>
     Ok(())
 }
 
+/// A text of a set as a cell: bytes in hexadecimal digits, characters in UTF-8.
+fn text_cell(alloc: Global, set: Charset, text: &[u8]) -> Result<Text, NoMemory>
+    requires { IsWellFormed set text.now }
+    ensures { IfOk result (λ cell. cell ≡ text_cell set text.now) }
+{
+    if set == Charset::Binary {
+        let mut cell = Text::from_slice(alloc, b"0x")?;
+        push_hex(&mut cell, text)?;
+        return Ok(cell);
+    }
+    let characters = converted_text(alloc, set, Charset::Utf8mb4, text)?;
+    let mut cell = Text::new(alloc);
+    push_escaped(&mut cell, characters.as_slice())?;
+    Ok(cell)
+}
+
+/// A value of a set as a cell, None being NULL.
+#[tactic(auto, unfolding(crate::specs::Print::cell))]
+pub fn cell(alloc: Global, set: Charset, value: &Option<Text>) -> Result<Text, NoMemory>
+    requires { IfSome value.now (IsWellFormed set) }
+    ensures { IfOk result (λ text. text ≡ cell set value.now) }
+{
+    match value {
+        Some(text) => text_cell(alloc, set, text.as_slice()),
+        None => Text::from_slice(alloc, b"NULL"),
+    }
+}
+
 /// The line of a refused statement.
 pub fn refusal_text(alloc: Global, refusal: &Refusal) -> Result<Text, NoMemory>
-    ensures { IfOk result (λ text. text ≡ refusal_line refusal.now.number refusal.now.text) }
+    ensures { IfOk result (λ text. text ≡ refusal_line refusal.now) }
 {
     let mut buffer = Buffer::new();
     let mut line = Text::from_slice(alloc, b"ERROR ")?;

@@ -1,36 +1,35 @@
+ghost use Rattle.std.specs.Option.{option_copied};
 ghost use Rattle.std.specs.Prelude.{◌≡◌, ◌≤◌, IfSome, Some};
-ghost use Rattle.mc_charset.specs.declared.charset.Charset.TheVariants.{Utf8mb4};
 ghost use Rattle.mc_base.specs.Sink.{appended};
-ghost use Rattle.mycoll.specs.Answering.{Written, StopCause};
+ghost use Rattle.mycoll.specs.Answering.{AnswersWritten, Written, StopCause};
+ghost use Rattle.mycoll.specs.Answers.{answers};
+ghost use Rattle.mycoll.specs.Opened.{IsSound, accepted_of};
 ghost use Rattle.mycoll.specs.Outcome.{refused_line};
 ghost use Rattle.mycoll.specs.Run.{
   plan,
   files_plan,
+  setting_of,
   one_line,
   answered_status,
   line_status,
-  utf8mb4_bin,
   HasWritten,
   IsComplete,
   ReadCause,
   WriteCause,
   FitsWords,
 };
-ghost use Rattle.mycoll.specs.Words.{script_word, usage_line};
+ghost use Rattle.mycoll.specs.Words.{named_files, usage_line};
 
 use crate::answering::answer_script;
+use crate::engine::Connection;
+use crate::opening::{Opened, open_files};
 use crate::output::{Stopped, write_bytes};
 use crate::print::refused_text;
-use crate::script::{NotOpened, open_script};
 use crate::status::Status;
-use crate::words::script_word;
+use crate::words::{NamedFiles, named_files};
 use mc_base::{FileRefusal, Files, NoMemory, Sink, Steps, Text};
-use mc_charset::CollId;
-use mc_order::{BinCollation, Collation};
+use mc_book::BookFault;
 use std::alloc::Global;
-
-/// The connection's collation, `utf8mb4_bin`.
-const UTF8MB4_BIN: CollId = CollId(4);
 
 const USAGE: &[u8] = b"usage: mycoll [CATALOG] SCRIPT | --make N\n";
 
@@ -70,66 +69,72 @@ fn write_refusal<S: Sink>(alloc: Global, refusal: &FileRefusal, out: &mut S) -> 
     }
 }
 
-/// Answers the script of this name.
-fn run_script<C: Collation, F: Files, S: Sink>(
+/// Answers the script that was opened, by the collations that were opened with it.
+fn answer_opened<S: Sink>(alloc: Global, opened: &Opened, out: &mut S) -> Result<bool, Stopped>
+    requires { IsSound opened.now }
+    ensures later { S.faults out.old ≤ S.faults out.new }
+    ensures told { AnswersWritten (answers (setting_of (accepted_of opened.now)) opened.now.script) result
+        (S.written out.old) (S.written out.new) }
+    ensures cause { StopCause result (S.faults out.old) (S.faults out.new) }
+{
+    let connection = Connection::new(&opened.catalog, &opened.book);
+    answer_script(alloc, &connection, opened.script.as_slice(), out)
+}
+
+/// Answers the script of these files.
+fn run_files<F: Files, S: Sink>(
     alloc: Global,
-    collation: &C,
-    name: &Text,
+    named: NamedFiles<'_>,
     files: &mut F,
     out: &mut S,
 ) -> Status
-    requires { (C.meaning collation.now).charset ≡ Utf8mb4 }
     ensures kept { F.contents files.new ≡ F.contents files.old }
-    ensures told { IfSome (F.contents files.old) (λ told.
-        HasWritten (files_plan (C.meaning collation.now) told name.now) result
+    ensures told { IfSome (F.contents files.old) (λ told. HasWritten (files_plan told
+        (record { catalog = option_copied named.entry.catalog; script = named.entry.script.now })) result
         (S.written out.old) (S.written out.new)) }
     ensures read { ReadCause result (F.faults files.old) (F.faults files.new)
         (S.written out.old) (S.written out.new) }
     ensures write { WriteCause result (S.faults out.old) (S.faults out.new) }
-    ensures form { FitsWords (Some name.now) result }
+    ensures form { FitsWords (Some (record { catalog = option_copied named.entry.catalog; script = named.entry.script.now })) result }
 {
-    match open_script(alloc, files, name) {
-        Ok(script) => answered_status(answer_script(alloc, collation, script.as_slice(), out)),
-        Err(NotOpened::Refused(refusal)) => {
+    match open_files(alloc, files, named) {
+        Ok(opened) => answered_status(answer_opened(alloc, &opened, out)),
+        Err(BookFault::Refused(refusal)) => {
             line_status(Status::FilesRefused, write_refusal(alloc, &refusal, out))
         }
-        Err(NotOpened::Fault) => Status::ReadFault,
-        Err(NotOpened::NoMemory) => Status::NoMemory,
+        Err(BookFault::Fault) => Status::ReadFault,
+        Err(BookFault::NoMemory) => Status::NoMemory,
     }
 }
 
-/// Answers the words after the program's name: a script, under the collation of its connection.
-/// Words of no form are answered with the usage line.
+/// Answers the words after the program's name. Words of no form are answered with the usage line.
 #[tactic(auto, unfolding(crate::specs::Run::plan))]
-fn run_words<C: Collation, F: Files, S: Sink>(
-    alloc: Global,
-    collation: &C,
-    words: &[Text],
-    files: &mut F,
-    out: &mut S,
-) -> Status
-    requires { (C.meaning collation.now).charset ≡ Utf8mb4 }
+fn run_words<F: Files, S: Sink>(alloc: Global, words: &[Text], files: &mut F, out: &mut S) -> Status
     ensures kept { F.contents files.new ≡ F.contents files.old }
-    ensures told { IfSome (plan (C.meaning collation.now) (F.contents files.old) words.now) (λ all.
+    ensures told { IfSome (plan (F.contents files.old) words.now) (λ all.
         HasWritten all result (S.written out.old) (S.written out.new)) }
     ensures read { ReadCause result (F.faults files.old) (F.faults files.new)
         (S.written out.old) (S.written out.new) }
     ensures write { WriteCause result (S.faults out.old) (S.faults out.new) }
-    ensures form { FitsWords (script_word words.now) result }
+    ensures form { FitsWords (named_files words.now) result }
 {
-    match script_word(words) {
-        Some(name) => run_script(alloc, collation, name, files, out),
+    match named_files(words) {
+        Some(named) => run_files(alloc, named, files, out),
         None => line_status(Status::Usage, write_bytes(out, USAGE)),
     }
 }
 
-/// Answers the words after the program's name: reads the script that they name through `files`,
-/// and writes its answers to `out`. It opens the script alone, takes no step on `work` or `steps`,
-/// and ends with the status of what it has written.
+/// Answers the words after the program's name: reads the files that they name through `files`, and
+/// writes the script's answers to `out`. It takes no step on `work` or `steps`, and ends with the
+/// status of what it has written.
 ///
-/// A script is at most 16,777,216 bytes of UTF-8. Its statements are answered in order, each by
-/// one call of the sink; a refused one is answered with its `ERROR` line, and the run goes on.
-/// Texts compare under `utf8mb4_bin` (MySQL 8.0 manual, 10.8.5 and 10.10.1).
+/// The words are a script, or a catalog and a script. The catalog is opened first, then the script,
+/// then the table of each declared collation in the order of the catalog; each is at most
+/// 16,777,216 bytes and is parsed before the next one is opened, and the first that is refused ends
+/// the run with its line. The script is UTF-8. Its statements are answered in order, each by one
+/// call of the sink; a refused one is answered with its `ERROR` line, and the run goes on. Without a
+/// catalog the collations are the built-in ones, and the connection's is `utf8mb4_bin` (MySQL 8.0
+/// manual, 10.8.5 and 10.10.1).
 pub fn run<F: Files, S: Sink, W, L>(
     alloc: Global,
     words: &[Text],
@@ -138,21 +143,20 @@ pub fn run<F: Files, S: Sink, W, L>(
     work: &mut Steps<W>,
     steps: &mut Steps<L>,
 ) -> Status
-    // The bytes written are the plan's: for an accepted script its statements' answers, in order.
-    ensures told { IfSome (plan utf8mb4_bin (F.contents files.old) words.now) (λ all.
+    // The bytes written are the plan's: for accepted files the statements' answers, in order.
+    ensures told { IfSome (plan (F.contents files.old) words.now) (λ all.
         HasWritten all result (S.written out.old) (S.written out.new)) }
     // Where neither count rose, the run ends as the plan says, unless memory ran out.
-    ensures complete { IfSome (plan utf8mb4_bin (F.contents files.old) words.now) (λ all.
+    ensures complete { IfSome (plan (F.contents files.old) words.now) (λ all.
         IsComplete all result (F.faults files.old) (F.faults files.new)
         (S.faults out.old) (S.faults out.new)) }
     ensures read { ReadCause result (F.faults files.old) (F.faults files.new)
         (S.written out.old) (S.written out.new) }
     ensures write { WriteCause result (S.faults out.old) (S.faults out.new) }
-    ensures form { FitsWords (script_word words.now) result }
+    ensures form { FitsWords (named_files words.now) result }
     ensures kept { F.contents files.new ≡ F.contents files.old }
     ensures steps { steps.new ≡ steps.old }
     ensures work { work.new ≡ work.old }
 {
-    let collation = BinCollation::new(UTF8MB4_BIN);
-    run_words(alloc, &collation, words, files, out)
+    run_words(alloc, words, files, out)
 }

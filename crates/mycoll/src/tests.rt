@@ -19,7 +19,7 @@ struct Row {
     written: &'static [u8],
 }
 
-const ROWS: [Row; 15] = [
+const ROWS: [Row; 18] = [
     Row {
         why: "trailing spaces count for nothing under PAD SPACE",
         words: &[b"s.sql"],
@@ -91,14 +91,44 @@ const ROWS: [Row; 15] = [
         written: b"usage: mycoll [CATALOG] SCRIPT | --make N\n",
     },
     Row {
-        why: "two words",
-        words: &[b"cat.txt", b"s.sql"],
+        why: "three words",
+        words: &[b"cat.txt", b"s.sql", b"t.sql"],
         name: b"s.sql",
         content: b"",
         failing_reads: &[],
         failing_writes: &[],
         status: Status::Usage,
         written: b"usage: mycoll [CATALOG] SCRIPT | --make N\n",
+    },
+    Row {
+        why: "a first word --make is no catalog",
+        words: &[b"--make", b"s.sql"],
+        name: b"s.sql",
+        content: b"",
+        failing_reads: &[],
+        failing_writes: &[],
+        status: Status::Usage,
+        written: b"usage: mycoll [CATALOG] SCRIPT | --make N\n",
+    },
+    Row {
+        why: "a second word --make is a script",
+        words: &[b"s.sql", b"--make"],
+        name: b"s.sql",
+        content: b"",
+        failing_reads: &[],
+        failing_writes: &[],
+        status: Status::FilesRefused,
+        written: b"refused --make Absent 0\n",
+    },
+    Row {
+        why: "a missing catalog, before the script",
+        words: &[b"cat.txt", b"s.sql"],
+        name: b"t.sql",
+        content: b"",
+        failing_reads: &[1],
+        failing_writes: &[],
+        status: Status::FilesRefused,
+        written: b"refused cat.txt Absent 0\n",
     },
     Row {
         why: "a first word --make is no script",
@@ -172,7 +202,7 @@ const ROWS: [Row; 15] = [
     },
 ];
 
-fn words_of(alloc: Global, words: &[&[u8]]) -> Result<List<Text>, NoMemory> {
+pub fn words_of(alloc: Global, words: &[&[u8]]) -> Result<List<Text>, NoMemory> {
     let mut list = List::new(alloc);
     for word in words {
         list.push(Text::from_slice(alloc, word)?)?;
@@ -180,13 +210,18 @@ fn words_of(alloc: Global, words: &[&[u8]]) -> Result<List<Text>, NoMemory> {
     Ok(list)
 }
 
-fn one_file(alloc: Global, name: &[u8], content: Text, fail: &[u64]) -> Result<MemFiles, NoMemory> {
+pub fn one_file(
+    alloc: Global,
+    name: &[u8],
+    content: Text,
+    fail: &[u64],
+) -> Result<MemFiles, NoMemory> {
     let mut files = List::new(alloc);
     files.push((Text::from_slice(alloc, name)?, content))?;
     Ok(MemFiles::new(files, List::from_slice(alloc, fail)?))
 }
 
-fn status_of(alloc: Global, words: &[Text], files: &mut MemFiles, out: &mut MemSink) -> Status {
+pub fn status_of(alloc: Global, words: &[Text], files: &mut MemFiles, out: &mut MemSink) -> Status {
     run(
         alloc,
         words,

@@ -1,6 +1,7 @@
-ghost use Rattle.std.specs.Prelude.{◌≡◌};
+ghost use Rattle.std.specs.Prelude.{◌≡◌, None, Some, MatchOption, codes, nat_eq};
 ghost use Rattle.std.specs.Option.{option_copied};
-ghost use Rattle.mycoll.specs.Words.{script_word};
+ghost use lib.Pointwise.{pointwise};
+ghost use Rattle.mycoll.specs.Words.{Named, named_files};
 
 use mc_base::{List, NoMemory, Text};
 use std::alloc::Global;
@@ -24,12 +25,34 @@ pub fn words_of(alloc: Global, rt: &(impl Env + AllocGlobal)) -> Result<List<Tex
     Ok(words)
 }
 
-/// The script that the words ask for, where they are of a form.
-pub fn script_word(words: &[Text]) -> Option<&Text>
-    ensures { option_copied result ≡ script_word words.now }
+/// The files that words of a form name: a catalog, if one is there, and a script.
+#[derive(Clone, Copy)]
+pub struct NamedFiles<'a> {
+    pub catalog: Option<&'a Text>,
+    pub script: &'a Text,
+}
+
+/// Whether the word asks for a workload.
+fn is_make(word: &Text) -> bool
+    ensures { result ≡ pointwise nat_eq word.now (codes "--make") }
+{
+    word.as_slice() == b"--make".as_slice()
+}
+
+/// The files that the words name, where they are of a form: a script, or a catalog and a script.
+pub fn named_files(words: &[Text]) -> Option<NamedFiles<'_>>
+    ensures { MatchOption result (named_files words.now ≡ None) (λ named. named_files words.now
+        ≡ Some (record { catalog = option_copied named.catalog; script = named.script.now })) }
 {
     match words {
-        [word] if word.as_slice() != b"--make".as_slice() => Some(word),
+        [script] if !is_make(script) => Some(NamedFiles {
+            catalog: None,
+            script,
+        }),
+        [catalog, script] if !is_make(catalog) => Some(NamedFiles {
+            catalog: Some(catalog),
+            script,
+        }),
         _ => None,
     }
 }

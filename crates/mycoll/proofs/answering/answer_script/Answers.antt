@@ -14,7 +14,7 @@ returns-in_err-answer-clause-told g c =
 
 pub returns-in_err-write_bytes-clause-told : goal.returns-in_err-write_bytes-clause-told
 returns-in_err-write_bytes-clause-told g c =
-    let m = g.C.Collation.meaning c.args.collation.now in
+    let m = (g.E.Engine.setting c.args.engine.now) in
     let script = c.args.script.now in
     let before = g.S.Sink.written c.args.out.now in
     let now = g.S.Sink.written c.loop-statement.out in
@@ -27,7 +27,7 @@ returns-in_err-write_bytes-clause-told g c =
 
 pub loop-statement-preserved : goal.loop-statement-preserved
 loop-statement-preserved g c =
-    let m = g.C.Collation.meaning c.args.collation.now in
+    let m = (g.E.Engine.setting c.args.engine.now) in
     let script = c.args.script.now in
     let before = g.S.Sink.written c.args.out.now in
     let now = g.S.Sink.written c.loop-statement.out in

@@ -6,7 +6,7 @@ use Rattle.mycoll.proofs.answering.answer_script.Given as goal
 
 abbrev pub invariant-loop-statement : goal.invariant-loop-statement
 invariant-loop-statement g l =
-    let m = g.C.Collation.meaning l.collation in
+    let m = g.E.Engine.setting l.engine in
     let written = g.S.Sink.written in
     record {
       so_far : IsSoFar (answers m l.script) (answers_from m l.script l.from) l.refused (written l.initial.out) (written l.out);

@@ -1,0 +1,99 @@
+ghost use Rattle.std.specs.Option.{option_copied};
+ghost use Rattle.std.specs.Prelude.{◌≡◌, ◌≤◌, All, IfOk, IfSome, IsUtf8, drop, length};
+ghost use Rattle.mc_book.specs.Any.{any_meaning};
+ghost use Rattle.mc_book.specs.BookOutcome.{IsBuilt};
+ghost use Rattle.mc_book.specs.FileOutcome.{greatest_file};
+ghost use Rattle.mc_book.specs.Meanings.{FitsCatalog, any_at, meanings, meaning_at};
+ghost use Rattle.mc_book.specs.Told.{HasOutcome, BookCause};
+ghost use Rattle.mc_catalog.specs.Lawful.{IsLawful};
+ghost use Rattle.mycoll.specs.Opened.{IsSound, accepted_of};
+ghost use Rattle.mycoll.specs.Outcome.{with_book, with_script, files_outcome};
+
+use crate::catalog_file::open_catalog;
+use crate::script::open_script;
+use crate::words::NamedFiles;
+use mc_base::{Files, Text};
+use mc_book::{AnyBook, BookFault, build_book};
+use mc_catalog::Catalog;
+use std::alloc::Global;
+
+/// What is to be answered, and by what: a script, a catalog, and the book of its collations.
+#[derive(Drop)]
+pub struct Opened {
+    pub catalog: Catalog,
+    pub script: Text,
+    pub book: AnyBook,
+}
+
+/// A catalog and a script, with the book of the collations.
+#[tactic(auto, unfolding(crate::specs::Outcome::with_book), using(crate::proofs::OpeningSteps::unread))]
+fn open_book<F: Files>(
+    alloc: Global,
+    files: &mut F,
+    catalog: Catalog,
+    script: Text,
+) -> Result<Opened, BookFault>
+    requires lawful { IsLawful catalog }
+    requires built { All IsBuilt (drop 9 catalog.collations) }
+    requires utf8 { IsUtf8 script }
+    requires short { length script ≤ greatest_file }
+    ensures kept { F.contents files.new ≡ F.contents files.old }
+    ensures later { F.faults files.old ≤ F.faults files.new }
+    ensures told { IfSome (F.contents files.old) (λ told.
+        HasOutcome accepted_of result (with_book told catalog script)) }
+    ensures cause { BookCause result (F.faults files.old) (F.faults files.new) }
+    ensures sound { IfOk result IsSound }
+{
+    match build_book(alloc, &catalog, files) {
+        Ok(book) => Ok(Opened {
+            catalog,
+            script,
+            book,
+        }),
+        Err(fault) => Err(fault),
+    }
+}
+
+/// A catalog, with the script of this name and the book.
+#[tactic(auto, unfolding(crate::specs::Outcome::with_script), using(crate::proofs::OpeningSteps::unread))]
+fn open_rest<F: Files>(
+    alloc: Global,
+    files: &mut F,
+    script: &Text,
+    catalog: Catalog,
+) -> Result<Opened, BookFault>
+    requires lawful { IsLawful catalog }
+    requires built { All IsBuilt (drop 9 catalog.collations) }
+    ensures kept { F.contents files.new ≡ F.contents files.old }
+    ensures later { F.faults files.old ≤ F.faults files.new }
+    ensures told { IfSome (F.contents files.old) (λ told.
+        HasOutcome accepted_of result (with_script told script.now catalog)) }
+    ensures cause { BookCause result (F.faults files.old) (F.faults files.new) }
+    ensures sound { IfOk result IsSound }
+{
+    match open_script(alloc, files, script) {
+        Ok(script) => open_book(alloc, files, catalog, script),
+        Err(fault) => Err(fault),
+    }
+}
+
+/// Opens the files that are named: the catalog, the script, and the table of each declared
+/// collation in the order of the catalog. Each is read whole and parsed before the next is opened.
+#[tactic(auto, unfolding(crate::specs::Outcome::files_outcome), using(crate::proofs::OpeningSteps::unread))]
+pub fn open_files<F: Files>(
+    alloc: Global,
+    files: &mut F,
+    named: NamedFiles<'_>,
+) -> Result<Opened, BookFault>
+    ensures kept { F.contents files.new ≡ F.contents files.old }
+    ensures later { F.faults files.old ≤ F.faults files.new }
+    ensures told { IfSome (F.contents files.old) (λ told. HasOutcome accepted_of result
+        (files_outcome told (record { catalog = option_copied named.entry.catalog; script = named.entry.script.now }))) }
+    ensures cause { BookCause result (F.faults files.old) (F.faults files.new) }
+    ensures sound { IfOk result IsSound }
+{
+    match open_catalog(alloc, files, named.catalog) {
+        Ok(catalog) => open_rest(alloc, files, named.script, catalog),
+        Err(fault) => Err(fault),
+    }
+}

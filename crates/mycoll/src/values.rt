@@ -1,0 +1,193 @@
+ghost use Rattle.mc_charset.specs.Chars.{IsWellFormed};
+ghost use Rattle.mc_charset.specs.declared.charset.Charset.TheVariants.{Utf8mb4, Binary};
+ghost use Rattle.mc_convert.specs.Conversion.{is_binary};
+ghost use Rattle.mycoll.specs.Literals.{HasUtf8};
+ghost use Rattle.mycoll.specs.Unanswered.{IsWanted};
+ghost use Rattle.mycoll.specs.Values.{
+  limited,
+  converted_text,
+  taken_for,
+  literal_set,
+  introduced_text,
+  literal_text,
+  conversion,
+  hex_digit,
+  hex_digits,
+  hex_value,
+};
+ghost use Rattle.std.specs.Prelude.{◌≡◌, ◌<◌, ◌++◌, ◌&&◌, not, IfOk, IfSome, IsUtf8};
+
+use crate::literal::Literal;
+use crate::messages::invalid_string;
+use crate::unanswered::{Unanswered, refused};
+use mc_base::{NoMemory, Text};
+use mc_charset::{Charset, bytes_law, chars_law, utf8_law};
+use mc_convert::{convert, reinterpret};
+use std::alloc::Global;
+
+/// The greatest length of a string's value, in bytes.
+const GREATEST_STRING: usize = 1_048_576;
+
+/// The text as a value: None, which is NULL, where it is too long.
+pub fn limited(text: Text) -> Option<Text>
+    ensures is { result ≡ limited text }
+    ensures same { IfSome result (λ kept. kept ≡ text) }
+{
+    if text.len() <= GREATEST_STRING {
+        Some(text)
+    } else {
+        None
+    }
+}
+
+/// A well-formed text in another set, with `?` for a character that the set lacks.
+pub fn converted_text(
+    alloc: Global,
+    from: Charset,
+    to: Charset,
+    text: &[u8],
+) -> Result<Text, NoMemory>
+    requires { IsWellFormed from text.now }
+    ensures is { IfOk result (λ converted. converted ≡ converted_text from to text.now) }
+    ensures well_formed { IfOk result (λ converted. IsWellFormed to converted) }
+{
+    bytes_law(text);
+    convert(alloc, from, to, text)
+}
+
+/// The bytes as a text of a set, behind zero bytes up to whole units; None where they are none.
+fn taken_for(alloc: Global, set: Charset, bytes: &[u8]) -> Result<Option<Text>, NoMemory>
+    ensures is { IfOk result (λ taken. taken ≡ taken_for set bytes.now) }
+    ensures well_formed { IfOk result (λ taken. IfSome taken (IsWellFormed set)) }
+{
+    chars_law();
+    reinterpret(alloc, set, bytes)
+}
+
+/// The set of a literal, beside that of the connection.
+pub fn literal_set(connection: Charset, literal: &Literal) -> Charset
+    ensures { result ≡ literal_set connection literal.now }
+{
+    match literal {
+        Literal::Plain(_) => connection,
+        Literal::National(_) => Charset::Utf8mb3,
+        Literal::Hex(_) => Charset::Binary,
+        Literal::Introduced { set, .. } => *set,
+    }
+}
+
+/// The script's characters as a text of a set.
+fn script_text(alloc: Global, set: Charset, text: &[u8]) -> Result<Text, NoMemory>
+    requires { IsUtf8 text.now }
+    ensures is { IfOk result (λ found. found ≡ converted_text Utf8mb4 set text.now) }
+    ensures well_formed { IfOk result (λ found. IsWellFormed set found) }
+{
+    utf8_law();
+    converted_text(alloc, Charset::Utf8mb4, set, text)
+}
+
+/// The bytes as they stand.
+fn binary_text(alloc: Global, bytes: &[u8]) -> Result<Text, NoMemory>
+    ensures is { IfOk result (λ text. text ≡ bytes.now) }
+    ensures well_formed { IfOk result (λ text. IsWellFormed Binary text) }
+{
+    bytes_law(bytes);
+    Text::from_slice(alloc, bytes)
+}
+
+/// An introducer's bytes as a text of its set; refused where they are none.
+fn introduced_text(alloc: Global, set: Charset, bytes: &[u8]) -> Result<Text, Unanswered>
+    ensures is { IsWanted result (introduced_text set (taken_for set bytes.now)) }
+    ensures well_formed { IfOk result (λ text. IsWellFormed set text) }
+{
+    match taken_for(alloc, set, bytes)? {
+        Some(text) => Ok(text),
+        None => Err(refused(invalid_string(alloc, set))),
+    }
+}
+
+/// The text of a literal in its set.
+#[tactic(auto, unfolding(crate::specs::Values::literal_text))]
+pub fn literal_text(
+    alloc: Global,
+    connection: Charset,
+    literal: &Literal,
+) -> Result<Text, Unanswered>
+    requires { HasUtf8 literal.now }
+    ensures is { IsWanted result (literal_text connection literal.now) }
+    ensures well_formed { IfOk result (λ text. IsWellFormed (literal_set connection literal.now) text) }
+{
+    match literal {
+        Literal::Plain(text) => Ok(script_text(alloc, connection, text.as_slice())?),
+        Literal::National(text) => Ok(script_text(alloc, Charset::Utf8mb3, text.as_slice())?),
+        Literal::Hex(bytes) => Ok(binary_text(alloc, bytes.as_slice())?),
+        Literal::Introduced { set, bytes } => introduced_text(alloc, *set, bytes.as_slice()),
+    }
+}
+
+/// The value of CONVERT: from binary the bytes are taken for a text of the set, and are NULL where
+/// they are none; any other text is converted.
+#[tactic(auto, unfolding(crate::specs::Values::conversion))]
+pub fn conversion(
+    alloc: Global,
+    from: Charset,
+    to: Charset,
+    text: &[u8],
+) -> Result<Option<Text>, NoMemory>
+    requires { IsWellFormed from text.now }
+    ensures is { IfOk result (λ value. value ≡ conversion from to text.now) }
+{
+    if from == Charset::Binary && to != Charset::Binary {
+        return match taken_for(alloc, to, text)? {
+            Some(taken) => Ok(limited(taken)),
+            None => Ok(None),
+        };
+    }
+    Ok(limited(converted_text(alloc, from, to, text)?))
+}
+
+/// A hexadecimal digit, in upper case.
+fn hex_digit(value: u8) -> u8
+    requires { value < 16 }
+    ensures { result ≡ hex_digit value }
+{
+    if value < 10 {
+        b'0' + value
+    } else {
+        b'A' + (value - 10)
+    }
+}
+
+/// Appends two digits for each byte, in upper case.
+#[tactic(auto, unfolding(crate::specs::Values::hex_digits))]
+pub fn push_hex(out: &mut Text, bytes: &[u8]) -> Result<(), NoMemory>
+    ensures { IfOk result (λ _. out.new ≡ out.old ++ hex_digits bytes.now) }
+{
+    for byte in bytes {
+        out.push(hex_digit(*byte / 16))?;
+        out.push(hex_digit(*byte % 16))?;
+    }
+    Ok(())
+}
+
+/// Two digits for each byte, as characters.
+fn hex_text(alloc: Global, bytes: &[u8]) -> Result<Text, NoMemory>
+    ensures is { IfOk result (λ digits. digits ≡ hex_digits bytes.now) }
+    ensures utf8 { IfOk result (λ digits. IsUtf8 digits) }
+{
+    let mut digits = Text::new(alloc);
+    push_hex(&mut digits, bytes)?;
+    Ok(digits)
+}
+
+/// The value of HEX: the digits in the set of the connection, or NULL where they are too long.
+#[tactic(auto, unfolding(crate::specs::Values::hex_value))]
+pub fn hex_value(alloc: Global, connection: Charset, bytes: &[u8]) -> Result<Option<Text>, NoMemory>
+    ensures is { IfOk result (λ value. value ≡ hex_value connection bytes.now) }
+    ensures well_formed { IfOk result (λ value. IfSome value (IsWellFormed connection)) }
+{
+    match limited(hex_text(alloc, bytes)?) {
+        Some(digits) => Ok(limited(script_text(alloc, connection, digits.as_slice())?)),
+        None => Ok(None),
+    }
+}
