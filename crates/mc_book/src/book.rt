@@ -17,9 +17,9 @@ pub struct AnyBook {
 
 impl Model for AnyBook {
     ghost use Rattle.std.specs.Prelude.{List};
-    ghost use Rattle.mc_book.specs.declared.any_collation.AnyCollation.{AnyCollation as Any};
+    ghost use Rattle.mc_book.specs.declared.any_collation.AnyCollation.{AnyCollation as Collated};
 
-    ghost Value = { List Any };
+    ghost Value = { List Collated };
 
     ghost view = { λ book. book.collations };
 }
