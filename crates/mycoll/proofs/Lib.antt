@@ -1,6 +1,7 @@
 pub mod AnsweringSteps
 pub mod CatalogSteps
 pub mod CollationChoice
+pub mod Escapes
 pub mod LiteralSteps
 pub mod OpeningSteps
 pub mod Reserved

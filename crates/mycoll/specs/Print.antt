@@ -1,5 +1,5 @@
 -- The lines in which answers are written: this engine's own conventions.
-use Rattle.std.specs.Prelude.{ℕ, List, [], ◌∷◌, ◌++◌, ◌==◌, Option, Some, None, if◌then◌else◌, codes, decimal}
+use Rattle.std.specs.Prelude.{ℕ, Bool, ◌||◌, List, [], ◌∷◌, ◌++◌, ◌==◌, Option, Some, None, if◌then◌else◌, codes, decimal}
 use Rattle.std.specs.List.{flat_map}
 use Rattle.mc_base.specs.declared.refusal.Refusal.{Refusal}
 use Rattle.mc_charset.specs.declared.charset.Charset.{Charset}
@@ -15,6 +15,10 @@ escaped_byte b =
     else if b == 0x0A then codes "\\n"
     else if b == 0x5C then codes "\\\\"
     else b ∷ []
+
+-- The byte is written by an escape.
+abbrev pub is_escaped : ℕ → Bool
+is_escaped b = (b == 0x00) || (b == 0x09) || (b == 0x0A) || (b == 0x5C)
 
 -- A header or a text as it is written.
 unfoldable pub escaped : List ℕ → List ℕ

@@ -1,3 +1,5 @@
+ghost use Rattle.std.specs.Prelude.{◌≡◌, IfOk};
+
 use crate::status::Status;
 use crate::tests::{status_of, words_of};
 use mc_base::{List, MemFiles, MemSink, NoMemory, Text};
@@ -12,18 +14,12 @@ const SWEDISH: &[u8] = b"collation latin1_swedish_ci latin1 table8 sw.txt
 connection latin1_swedish_ci
 ";
 
-/// Weight files, by their names.
-const TABLES: [(&[u8], &[u8]); 6] = [
-    (b"sw.txt", b"default =\n61..7A @ 41\n"),
-    (
-        b"g2.txt",
-        b"default =\n61..7A @ 41\nC4 41 45\nE4 41 45\nD6 4F 45\nF6 4F 45\nDC 55 45\nFC 55 45\nDF 53 53\n",
-    ),
-    (b"gen.txt", b"0061..007A @ 0041\n00DF 0053\n"),
-    (b"twice.txt", b"0061..007A @ 0041\n00DF 0053\n00DF 0053\n"),
-    (b"cut.txt", b"61..7A @ 41\nC4 41 45\n"),
-    (b"space.txt", b"default =\n61..7A @ 41\n20 41 42\n"),
-];
+const SW: &[u8] = b"default =\n61..7A @ 41\n";
+
+const G2: &[u8] =
+    b"default =\n61..7A @ 41\nC4 41 45\nE4 41 45\nD6 4F 45\nF6 4F 45\nDC 55 45\nFC 55 45\nDF 53 53\n";
+
+const GEN: &[u8] = b"0061..007A @ 0041\n00DF 0053\n";
 
 /// A run over a catalog, a script and the weight files: the calls of the files that fail, and how
 /// it ends with what is written.
@@ -31,6 +27,9 @@ struct Loaded {
     why: &'static str,
     catalog: &'static [u8],
     script: &'static [u8],
+    swedish: &'static [u8],
+    german: &'static [u8],
+    general: &'static [u8],
     failing_reads: &'static [u64],
     status: Status,
     written: &'static [u8],
@@ -41,6 +40,9 @@ const LOADED: [Loaded; 31] = [
         why: "a letter of two weights",
         catalog: THREE,
         script: b"SELECT _latin1 X'E4' COLLATE latin1_german2_ci = _latin1'ae';",
+        swedish: SW,
+        german: G2,
+        general: GEN,
         failing_reads: &[],
         status: Status::Done,
         written: b"_latin1 X'E4' COLLATE latin1_german2_ci = _latin1'ae'\n1\n",
@@ -49,6 +51,9 @@ const LOADED: [Loaded; 31] = [
         why: "the right operand's collation",
         catalog: THREE,
         script: b"SELECT _latin1'ae' = _latin1 X'E4' COLLATE latin1_german2_ci;",
+        swedish: SW,
+        german: G2,
+        general: GEN,
         failing_reads: &[],
         status: Status::Done,
         written: b"_latin1'ae' = _latin1 X'E4' COLLATE latin1_german2_ci\n1\n",
@@ -57,6 +62,9 @@ const LOADED: [Loaded; 31] = [
         why: "each letter by itself",
         catalog: THREE,
         script: b"SELECT _latin1 X'E4' COLLATE latin1_swedish_ci = _latin1'ae';",
+        swedish: SW,
+        german: G2,
+        general: GEN,
         failing_reads: &[],
         status: Status::Done,
         written: b"_latin1 X'E4' COLLATE latin1_swedish_ci = _latin1'ae'\n0\n",
@@ -65,6 +73,9 @@ const LOADED: [Loaded; 31] = [
         why: "one weight a code point",
         catalog: THREE,
         script: b"SELECT '\xc3\x9f' COLLATE utf8mb4_general_ci = 's';",
+        swedish: SW,
+        german: G2,
+        general: GEN,
         failing_reads: &[],
         status: Status::Done,
         written: b"'\xc3\x9f' COLLATE utf8mb4_general_ci = 's'\n1\n",
@@ -73,6 +84,9 @@ const LOADED: [Loaded; 31] = [
         why: "and not two",
         catalog: THREE,
         script: b"SELECT '\xc3\x9f' COLLATE utf8mb4_general_ci = 'ss';",
+        swedish: SW,
+        german: G2,
+        general: GEN,
         failing_reads: &[],
         status: Status::Done,
         written: b"'\xc3\x9f' COLLATE utf8mb4_general_ci = 'ss'\n0\n",
@@ -81,6 +95,9 @@ const LOADED: [Loaded; 31] = [
         why: "no collation of this name",
         catalog: THREE,
         script: b"SELECT 'a' COLLATE nope = 'a';",
+        swedish: SW,
+        german: G2,
+        general: GEN,
         failing_reads: &[],
         status: Status::SomeRefused,
         written: b"ERROR 1273: Unknown collation: 'nope'\n",
@@ -89,6 +106,9 @@ const LOADED: [Loaded; 31] = [
         why: "a collation of another set",
         catalog: THREE,
         script: b"SELECT 'a' COLLATE latin1_swedish_ci = 'a';",
+        swedish: SW,
+        german: G2,
+        general: GEN,
         failing_reads: &[],
         status: Status::SomeRefused,
         written: b"ERROR 1253: COLLATION 'latin1_swedish_ci' is not valid for CHARACTER SET 'utf8mb4'\n",
@@ -97,6 +117,9 @@ const LOADED: [Loaded; 31] = [
         why: "strings of two sets",
         catalog: THREE,
         script: b"SELECT 'a' COLLATE utf8mb4_general_ci = _latin1'a';",
+        swedish: SW,
+        german: G2,
+        general: GEN,
         failing_reads: &[],
         status: Status::SomeRefused,
         written: b"ERROR 9099: not built yet\n",
@@ -105,6 +128,9 @@ const LOADED: [Loaded; 31] = [
         why: "the connection's collation and set",
         catalog: SWEDISH,
         script: b"SELECT 'A' = 'a';SELECT HEX('\xc3\xa9\xd1\x8f');",
+        swedish: SW,
+        german: G2,
+        general: GEN,
         failing_reads: &[],
         status: Status::Done,
         written: b"'A' = 'a'\n1\nHEX('\xc3\xa9\xd1\x8f')\nE93F\n",
@@ -113,6 +139,9 @@ const LOADED: [Loaded; 31] = [
         why: "a connection in binary shows bytes",
         catalog: b"connection binary\n",
         script: b"SELECT HEX('a');",
+        swedish: SW,
+        german: G2,
+        general: GEN,
         failing_reads: &[],
         status: Status::Done,
         written: b"HEX('a')\n0x3631\n",
@@ -121,54 +150,75 @@ const LOADED: [Loaded; 31] = [
         why: "an empty catalog",
         catalog: b"",
         script: b"SELECT 'a' = 'a ';",
+        swedish: SW,
+        german: G2,
+        general: GEN,
         failing_reads: &[],
         status: Status::Done,
         written: b"'a' = 'a '\n1\n",
     },
     Loaded {
         why: "a code point stands twice",
-        catalog: b"collation x utf8mb4 general twice.txt\n",
+        catalog: b"collation x utf8mb4 general gen.txt\n",
         script: b"",
+        swedish: SW,
+        german: G2,
+        general: b"0061..007A @ 0041\n00DF 0053\n00DF 0053\n",
         failing_reads: &[],
         status: Status::FilesRefused,
-        written: b"refused twice.txt Repeated 3\n",
+        written: b"refused gen.txt Repeated 3\n",
     },
     Loaded {
         why: "bytes without weights",
-        catalog: b"collation x latin1 table8 cut.txt\n",
+        catalog: b"collation x latin1 table8 g2.txt\n",
         script: b"",
+        swedish: SW,
+        german: b"61..7A @ 41\nC4 41 45\n",
+        general: GEN,
         failing_reads: &[],
         status: Status::FilesRefused,
-        written: b"refused cut.txt Missing 0\n",
+        written: b"refused g2.txt Missing 0\n",
     },
     Loaded {
         why: "two weights for the space",
-        catalog: b"collation x latin1 table8 space.txt\n",
+        catalog: b"collation x latin1 table8 sw.txt\n",
         script: b"",
+        swedish: b"default =\n61..7A @ 41\n20 41 42\n",
+        german: G2,
+        general: GEN,
         failing_reads: &[],
         status: Status::FilesRefused,
-        written: b"refused space.txt BadLine 3\n",
+        written: b"refused sw.txt BadLine 3\n",
     },
     Loaded {
         why: "a missing table",
         catalog: b"collation x latin1 table8 sw.txt\ncollation y latin1 table8 none.txt\n",
         script: b"",
+        swedish: SW,
+        german: G2,
+        general: GEN,
         failing_reads: &[],
         status: Status::FilesRefused,
         written: b"refused none.txt Absent 0\n",
     },
     Loaded {
         why: "the first refused table",
-        catalog: b"collation x latin1 table8 cut.txt\ncollation y latin1 table8 none.txt\n",
+        catalog: b"collation x latin1 table8 g2.txt\ncollation y latin1 table8 none.txt\n",
         script: b"",
+        swedish: SW,
+        german: b"61..7A @ 41\nC4 41 45\n",
+        general: GEN,
         failing_reads: &[],
         status: Status::FilesRefused,
-        written: b"refused cut.txt Missing 0\n",
+        written: b"refused g2.txt Missing 0\n",
     },
     Loaded {
         why: "a bad line of the catalog",
         catalog: b"connection\n",
         script: b"",
+        swedish: SW,
+        german: G2,
+        general: GEN,
         failing_reads: &[],
         status: Status::FilesRefused,
         written: b"refused cat.txt BadLine 1\n",
@@ -177,6 +227,9 @@ const LOADED: [Loaded; 31] = [
         why: "a catalog's fault with its line",
         catalog: b"# sets\n\ncollation x koi8 table8 f\n",
         script: b"",
+        swedish: SW,
+        german: G2,
+        general: GEN,
         failing_reads: &[],
         status: Status::FilesRefused,
         written: b"refused cat.txt UnknownCharset 3\n",
@@ -185,6 +238,9 @@ const LOADED: [Loaded; 31] = [
         why: "a collation by elements",
         catalog: b"collation x utf8mb4 uca400 none.txt\n",
         script: b"",
+        swedish: SW,
+        german: G2,
+        general: GEN,
         failing_reads: &[],
         status: Status::FilesRefused,
         written: b"refused cat.txt NotBuilt 0\n",
@@ -193,6 +249,9 @@ const LOADED: [Loaded; 31] = [
         why: "a table of rows",
         catalog: b"table t none.txt\ncolumn a bigint\n",
         script: b"",
+        swedish: SW,
+        german: G2,
+        general: GEN,
         failing_reads: &[],
         status: Status::FilesRefused,
         written: b"refused cat.txt NotBuilt 0\n",
@@ -201,6 +260,9 @@ const LOADED: [Loaded; 31] = [
         why: "the script before the tables of the collations",
         catalog: b"collation x latin1 table8 none.txt\n",
         script: b"SELECT 1;\xff",
+        swedish: SW,
+        german: G2,
+        general: GEN,
         failing_reads: &[],
         status: Status::FilesRefused,
         written: b"refused s.sql NotUtf8 9\n",
@@ -209,6 +271,9 @@ const LOADED: [Loaded; 31] = [
         why: "it fails where the catalog is opened",
         catalog: SWEDISH,
         script: b"SELECT 'a' = 'a';",
+        swedish: SW,
+        german: G2,
+        general: GEN,
         failing_reads: &[0],
         status: Status::ReadFault,
         written: b"",
@@ -217,6 +282,9 @@ const LOADED: [Loaded; 31] = [
         why: "it fails where the catalog is read",
         catalog: SWEDISH,
         script: b"SELECT 'a' = 'a';",
+        swedish: SW,
+        german: G2,
+        general: GEN,
         failing_reads: &[1],
         status: Status::ReadFault,
         written: b"",
@@ -225,6 +293,9 @@ const LOADED: [Loaded; 31] = [
         why: "it fails where the catalog is read to its end",
         catalog: SWEDISH,
         script: b"SELECT 'a' = 'a';",
+        swedish: SW,
+        german: G2,
+        general: GEN,
         failing_reads: &[2],
         status: Status::ReadFault,
         written: b"",
@@ -233,6 +304,9 @@ const LOADED: [Loaded; 31] = [
         why: "it fails where the script is opened",
         catalog: SWEDISH,
         script: b"SELECT 'a' = 'a';",
+        swedish: SW,
+        german: G2,
+        general: GEN,
         failing_reads: &[3],
         status: Status::ReadFault,
         written: b"",
@@ -241,6 +315,9 @@ const LOADED: [Loaded; 31] = [
         why: "it fails where the script is read",
         catalog: SWEDISH,
         script: b"SELECT 'a' = 'a';",
+        swedish: SW,
+        german: G2,
+        general: GEN,
         failing_reads: &[4],
         status: Status::ReadFault,
         written: b"",
@@ -249,6 +326,9 @@ const LOADED: [Loaded; 31] = [
         why: "it fails where the script is read to its end",
         catalog: SWEDISH,
         script: b"SELECT 'a' = 'a';",
+        swedish: SW,
+        german: G2,
+        general: GEN,
         failing_reads: &[5],
         status: Status::ReadFault,
         written: b"",
@@ -257,6 +337,9 @@ const LOADED: [Loaded; 31] = [
         why: "it fails where the table is opened",
         catalog: SWEDISH,
         script: b"SELECT 'a' = 'a';",
+        swedish: SW,
+        german: G2,
+        general: GEN,
         failing_reads: &[6],
         status: Status::ReadFault,
         written: b"",
@@ -265,6 +348,9 @@ const LOADED: [Loaded; 31] = [
         why: "it fails where the table is read",
         catalog: SWEDISH,
         script: b"SELECT 'a' = 'a';",
+        swedish: SW,
+        german: G2,
+        general: GEN,
         failing_reads: &[7],
         status: Status::ReadFault,
         written: b"",
@@ -273,6 +359,9 @@ const LOADED: [Loaded; 31] = [
         why: "it fails where the table is read to its end",
         catalog: SWEDISH,
         script: b"SELECT 'a' = 'a';",
+        swedish: SW,
+        german: G2,
+        general: GEN,
         failing_reads: &[8],
         status: Status::ReadFault,
         written: b"",
@@ -281,28 +370,31 @@ const LOADED: [Loaded; 31] = [
         why: "no call behind the table's end",
         catalog: SWEDISH,
         script: b"SELECT 'a' = 'a';",
+        swedish: SW,
+        german: G2,
+        general: GEN,
         failing_reads: &[9],
         status: Status::Done,
         written: b"'a' = 'a'\n1\n",
     },
 ];
 
+fn file(alloc: Global, name: &[u8], content: &[u8]) -> Result<(Text, Text), NoMemory>
+    ensures { IfOk result (λ file. file.0 ≡ name.now) }
+{
+    Ok((
+        Text::from_slice(alloc, name)?,
+        Text::from_slice(alloc, content)?,
+    ))
+}
+
 fn loaded_files(alloc: Global, row: &Loaded) -> Result<MemFiles, NoMemory> {
     let mut files = List::new(alloc);
-    files.push((
-        Text::from_slice(alloc, b"cat.txt")?,
-        Text::from_slice(alloc, row.catalog)?,
-    ))?;
-    files.push((
-        Text::from_slice(alloc, b"s.sql")?,
-        Text::from_slice(alloc, row.script)?,
-    ))?;
-    for (name, content) in &TABLES {
-        files.push((
-            Text::from_slice(alloc, name)?,
-            Text::from_slice(alloc, content)?,
-        ))?;
-    }
+    files.push(file(alloc, b"cat.txt", row.catalog)?)?;
+    files.push(file(alloc, b"s.sql", row.script)?)?;
+    files.push(file(alloc, b"sw.txt", row.swedish)?)?;
+    files.push(file(alloc, b"g2.txt", row.german)?)?;
+    files.push(file(alloc, b"gen.txt", row.general)?)?;
     Ok(MemFiles::new(files, List::from_slice(alloc, row.failing_reads)?))
 }
 

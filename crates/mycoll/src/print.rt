@@ -1,30 +1,65 @@
 ghost use Rattle.mc_charset.specs.Chars.{IsWellFormed};
 ghost use Rattle.mc_convert.specs.Conversion.{is_binary};
 ghost use Rattle.mycoll.specs.Outcome.{refused_line};
-ghost use Rattle.mycoll.specs.Print.{escaped, text_cell, cell, refusal_line};
-ghost use Rattle.std.specs.Prelude.{◌≡◌, ◌++◌, OnOk, IfOk, IfSome, codes};
+ghost use Rattle.mycoll.specs.Print.{is_escaped, escaped_byte, escaped, text_cell, cell, refusal_line};
+ghost use Rattle.std.specs.List.{position_or_len};
+ghost use Rattle.std.specs.Prelude.{◌≡◌, ◌≤◌, ◌++◌, OnOk, IfOk, IfSome, codes, length};
 
-use crate::values::{converted_text, push_hex};
+use crate::values::{converted_text, hex_text};
 use itoa::Buffer;
 use mc_base::{FileRefusal, NoMemory, Refusal, Text};
 use mc_charset::Charset;
 use std::alloc::Global;
 
+/// Whether a byte is written by an escape.
+fn is_escaped(byte: u8) -> bool
+    ensures { result ≡ is_escaped byte }
+{
+    byte == 0x00 || byte == 0x09 || byte == 0x0A || byte == 0x5C
+}
+
+/// How many bytes stand before the first one that is written by an escape.
+fn plain_len(text: &[u8]) -> usize
+    ensures len { result ≡ position_or_len is_escaped text.now }
+    ensures within { result ≤ length text.now }
+{
+    for (i, byte) in text.iter().enumerate() {
+        if is_escaped(*byte) {
+            return i;
+        }
+    }
+    text.len()
+}
+
+/// Appends a byte as it is written.
+fn push_escape(out: &mut Text, byte: u8) -> Result<(), NoMemory>
+    ensures { OnOk result (out.new ≡ out.old ++ escaped_byte byte) }
+{
+    match byte {
+        b'\0' => out.extend_from_slice(b"\\0"),
+        b'\t' => out.extend_from_slice(b"\\t"),
+        b'\n' => out.extend_from_slice(b"\\n"),
+        b'\\' => out.extend_from_slice(b"\\\\"),
+        other => out.push(other),
+    }
+}
+
 /// Appends a header or a text as it is written.
+// The bytes between two escapes are copied as one slice.
 #[tactic(auto, unfolding(crate::specs::Print::escaped))]
 pub fn push_escaped(out: &mut Text, text: &[u8]) -> Result<(), NoMemory>
     ensures { OnOk result (out.new ≡ out.old ++ escaped text.now) }
 {
-    for byte in text {
-        match *byte {
-            b'\0' => out.extend_from_slice(b"\\0")?,
-            b'\t' => out.extend_from_slice(b"\\t")?,
-            b'\n' => out.extend_from_slice(b"\\n")?,
-            b'\\' => out.extend_from_slice(b"\\\\")?,
-            other => out.push(other)?,
-        }
+    let mut rest = text;
+    loop {
+        let (plain, behind) = rest.split_at(plain_len(rest));
+        out.extend_from_slice(plain)?;
+        let Some((byte, more)) = behind.split_first() else {
+            return Ok(());
+        };
+        push_escape(out, *byte)?;
+        rest = more;
     }
-    Ok(())
 }
 
 /// A text of a set as a cell: bytes in hexadecimal digits, characters in UTF-8.
@@ -34,7 +69,7 @@ fn text_cell(alloc: Global, set: Charset, text: &[u8]) -> Result<Text, NoMemory>
 {
     if set == Charset::Binary {
         let mut cell = Text::from_slice(alloc, b"0x")?;
-        push_hex(&mut cell, text)?;
+        cell.extend_from_slice(hex_text(alloc, text)?.as_slice())?;
         return Ok(cell);
     }
     let characters = converted_text(alloc, set, Charset::Utf8mb4, text)?;

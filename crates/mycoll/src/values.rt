@@ -158,26 +158,25 @@ fn hex_digit(value: u8) -> u8
     }
 }
 
-/// Appends two digits for each byte, in upper case.
-#[tactic(auto, unfolding(crate::specs::Values::hex_digits))]
-pub fn push_hex(out: &mut Text, bytes: &[u8]) -> Result<(), NoMemory>
-    ensures { IfOk result (λ _. out.new ≡ out.old ++ hex_digits bytes.now) }
+/// Two digits for each byte, in upper case, as characters.
+pub fn hex_text(alloc: Global, bytes: &[u8]) -> Result<Text, NoMemory>
+    ensures is { IfOk result (λ text. text ≡ hex_digits bytes.now) }
+    ensures utf8 { IfOk result (λ text. IsUtf8 text) }
 {
-    for byte in bytes {
-        out.push(hex_digit(*byte / 16))?;
-        out.push(hex_digit(*byte % 16))?;
-    }
-    Ok(())
+    hex_digits(alloc, bytes)
 }
 
-/// Two digits for each byte, as characters.
-fn hex_text(alloc: Global, bytes: &[u8]) -> Result<Text, NoMemory>
-    ensures is { IfOk result (λ digits. digits ≡ hex_digits bytes.now) }
-    ensures utf8 { IfOk result (λ digits. IsUtf8 digits) }
+/// Two digits for each byte, in upper case.
+#[tactic(auto, unfolding(crate::specs::Values::hex_digits))]
+fn hex_digits(alloc: Global, bytes: &[u8]) -> Result<Text, NoMemory>
+    ensures { IfOk result (λ text. text ≡ hex_digits bytes.now) }
 {
-    let mut digits = Text::new(alloc);
-    push_hex(&mut digits, bytes)?;
-    Ok(digits)
+    let mut digits = vec![in alloc; 0u8; 2 * bytes.len()]?;
+    for (i, byte) in bytes.iter().enumerate() {
+        digits[2 * i] = hex_digit(*byte / 16);
+        digits[2 * i + 1] = hex_digit(*byte % 16);
+    }
+    Text::from_slice(alloc, digits.as_slice())
 }
 
 /// The value of HEX: the digits in the set of the connection, or NULL where they are too long.

@@ -1,7 +1,0 @@
--- The digits of the bytes so far are appended.
-use Rattle.std.proofs.Common.{◌≡◌, ◌++◌, take}
-use Rattle.mycoll.specs.Values.{hex_digits}
-use Rattle.mycoll.proofs.values.push_hex.Given as goal
-
-abbrev pub invariant-loop-byte : goal.invariant-loop-byte
-invariant-loop-byte l = l.out ≡ l.fn.out ++ hex_digits (take l.byte-index l.bytes)
