@@ -45,10 +45,12 @@ def main(words: list[str]) -> int:
     try:
         return run_xml(options) if options.form == "xml" else run_server(options)
     except Fault as fault:
-        print(f"export_weights.py: {fault.fact}", file=sys.stderr)
-        advice = f"; {fault.advice}" if fault.advice else ""
-        print(f"export_weights.py: nothing was written{advice}", file=sys.stderr)
+        for line in fault.lines():
+            say(line)
         return 1
+    except KeyboardInterrupt:
+        say("stopped")
+        return 130
 
 
 def make_parser() -> argparse.ArgumentParser:
@@ -100,10 +102,7 @@ def run_xml(options: argparse.Namespace) -> int:
     for line in lines + [f"# {remark}" for remark in found.remarks()]:
         print(line)
     if not lines:
-        print(
-            "export_weights.py: no weight map of latin1 or ascii there, so no file was written",
-            file=sys.stderr,
-        )
+        say("no weight map of latin1 or ascii there, so no file was written")
     return 0
 
 
@@ -129,6 +128,11 @@ def client_options(options: argparse.Namespace) -> list[str]:
     ]
     words = [f"{name}={value}" for name, value in told if value is not None]
     return words + (["--password"] if options.ask_password else [])
+
+
+def say(line: str) -> None:
+    """A line beside the catalog."""
+    print(f"export_weights.py: {line}", file=sys.stderr)
 
 
 def command_line() -> str:

@@ -31,6 +31,11 @@ for line in sys.stdin:
         sys.exit(0)
     fields = re.findall("WEIGHT_STRING\\\\(_[a-z0-9]+ X'([0-9A-F]*)'", line)
     fields = [told.get("weights", {}).get(each, each) for each in fields]
+    if label.startswith("pairs "):
+        text = re.search("X'([0-9A-F]*)'", line).group(1)
+        each = [text[at : at + 2] for at in range(0, len(text), 2)]
+        fields = ["".join(told.get("weights", {}).get(byte, byte) for byte in each)]
+        fields = [fields[0].replace(*told.get("together", ["-", "-"]))]
     if label == "server":
         fields = ["8.0.99", "Stub"]
     if label.startswith("set "):
@@ -211,6 +216,8 @@ class FromServer(InFolder):
             ("half a weight", {"weights": {"00DF": "00530"}}, "ucs2_general_ci", "'00530'"),
             ("NULL", {"weights": {"61": "NULL"}}, "latin1_y_ci", "'NULL' as the weights of 61"),
             ("no padding", {"pads": "0"}, "latin1_y_ci", "latin1_y_ci: does not pad with spaces"),
+            ("a contraction", {"together": ["6368", "C0"]}, "latin1_y_ci",
+             "latin1_y_ci: some two characters have other weights together than one by one"),
             ("another set", {"set": "latin2"}, "latin1_y_ci", "as a collation of latin2"),
             ("fails in the middle", {"die": "page ucs2_general_ci 2500"}, "ucs2_general_ci",
              "status 1: ERROR 2013 (HY000) at line 5: Lost connection"),

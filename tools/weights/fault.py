@@ -2,9 +2,14 @@
 
 
 class Fault(Exception):
-    """Nothing is written after a fault; `advice` is one sentence, or empty."""
+    """`advice` is one sentence, or empty; `outcome` says what the run leaves behind."""
 
-    def __init__(self, fact: str, advice: str = "") -> None:
+    def __init__(self, fact: str, advice: str = "", outcome: str = "nothing was written") -> None:
         super().__init__(fact)
         self.fact = fact
         self.advice = advice
+        self.outcome = outcome
+
+    def lines(self) -> list[str]:
+        """What is told."""
+        return [self.fact, f"{self.outcome}; {self.advice}" if self.advice else self.outcome]

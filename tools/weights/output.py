@@ -68,19 +68,28 @@ def _plain(words: str) -> str:
 def _place(texts: dict[Path, str], force: bool) -> None:
     """Writes all files beside their places, and moves them there when all are whole."""
     beside = {path: path.with_name(f".{path.name}.{os.getpid()}") for path in texts}
+    placed: list[str] = []
     try:
         for path, text in texts.items():
             with beside[path].open("x", encoding="ascii") as file:
                 file.write(text)
         for path in texts:
-            if force:
-                os.replace(beside[path], path)
-            else:
-                os.link(beside[path], path)
+            _move(beside[path], path, force)
+            placed.append(str(path))
     except OSError as error:
         raise Fault(
-            f"{error.filename}: {error.strerror}", "see that the folder has room and may be written"
+            f"{error.filename}: {error.strerror}",
+            "see that the folder has room and may be written",
+            f"written before that: {' '.join(placed)}" if placed else "nothing was written",
         ) from error
     finally:
         for path in beside.values():
             path.unlink(missing_ok=True)
+
+
+def _move(beside: Path, path: Path, force: bool) -> None:
+    """Gives a whole file its place; without `force` only where nothing is."""
+    if force:
+        os.replace(beside, path)
+    else:
+        os.link(beside, path)

@@ -93,6 +93,8 @@ def statements(wishes: list[Wish]) -> Iterator[str]:
         yield _pad_statement(wish)
         for page in pages(wish.charset):
             yield _page_statement(wish, page)
+        if wish.charset in BYTE_SETS:
+            yield _pairs_statement(wish)
 
 
 def _charset_statement(wish: Wish) -> str:
@@ -119,6 +121,18 @@ def _page_statement(wish: Wish, page: range) -> str:
 
 def _page_label(wish: Wish, page: range) -> str:
     return f"page {wish.collation} {page.start:X}"
+
+
+def _pairs_statement(wish: Wish) -> str:
+    text = literal(wish.charset, bytes(_every_pair(wish.charset)))
+    weights = f"HEX(WEIGHT_STRING({text} COLLATE {wish.collation}))"
+    return f"SELECT 'pairs {wish.collation}', {weights};\n"
+
+
+def _every_pair(charset: str) -> list[int]:
+    """A text of a set of bytes in which each character stands before each other one."""
+    characters = [code for page in pages(charset) for code in page]
+    return [code for left in characters for right in characters for code in (left, right)]
 
 
 class Answers:
@@ -152,7 +166,10 @@ def _ask(client: str, options: list[str], wishes: list[Wish]) -> Answers:
     with tempfile.TemporaryFile("w+", encoding="ascii") as script:
         script.writelines(statements(wishes))
         script.seek(0)
-        run = subprocess.run(command, stdin=script, capture_output=True, check=False)
+        try:
+            run = subprocess.run(command, stdin=script, capture_output=True, check=False)
+        except OSError as error:
+            raise Fault(f"{client}: {error.strerror}", "see that it runs by hand") from error
     if run.returncode != 0:
         raise _client_fault(client, run.returncode, run.stderr.decode(errors="replace"))
     return Answers(run.stdout.decode(errors="replace"))
@@ -180,7 +197,10 @@ def _table(wish: Wish, answers: Answers, source: str) -> Table:
             f"{wish.collation}: does not pad with spaces, as the kind of its file would",
             "leave this collation out, and the others are written",
         )
-    return Table(wish.collation, wish.charset, _weights(wish, answers), source)
+    weights = _weights(wish, answers)
+    if wish.charset in BYTE_SETS:
+        _no_contraction(wish, answers, weights)
+    return Table(wish.collation, wish.charset, weights, source)
 
 
 def _weights(wish: Wish, answers: Answers) -> Weights:
@@ -194,6 +214,17 @@ def _weights(wish: Wish, answers: Answers) -> Weights:
         for byte in range(len(weights), 0x100):
             weights[byte] = (byte,)
     return weights
+
+
+def _no_contraction(wish: Wish, answers: Answers, weights: Weights) -> None:
+    """A Fault where a text has other weights than its characters, one after the other."""
+    [hexed] = answers.take(f"pairs {wish.collation}", 1)
+    each = {code: "".join(f"{weight:02X}" for weight in weights[code]) for code in weights}
+    if hexed != "".join(each[code] for code in _every_pair(wish.charset)):
+        raise Fault(
+            f"{wish.collation}: some two characters have other weights together than one by one",
+            "leave this collation out, and the others are written",
+        )
 
 
 def _numbers(wish: Wish, code: int, hexed: str) -> tuple[int, ...]:

@@ -1,0 +1,102 @@
+#!/bin/bash
+# Compares `=` as mycoll answers it, over weight tables exported from a server on this machine, with
+# `=` as that server answers it.
+#
+#     tools/check_server.sh [PAIRS [SEED]]      2,000 pairs of strings for each collation; seed 1
+#
+# It installs nothing: where mariadbd or mysqld is on the machine, it starts a server of its own, on
+# a socket alone, in a folder of its own, and stops it at the end. Where there is none it says so,
+# with status 0. Status 1: some answers differ, or something failed. The program compared is
+# ./mycoll, or the one that the variable MYCOLL names, by its full path.
+top=$(cd "$(dirname "$0")/.." && pwd)
+pairs=${1:-2000}
+seed=${2:-1}
+mycoll=${MYCOLL:-$top/mycoll}
+collations="latin1_swedish_ci latin1_german1_ci latin1_german2_ci ascii_general_ci utf8mb4_general_ci"
+PATH=$PATH:/usr/sbin:/usr/local/sbin:/usr/libexec
+export PYTHONDONTWRITEBYTECODE=1
+
+first_of() { # the path of the first of these commands that is there
+    local name
+    for name in "$@"; do
+        command -v "$name" && return
+    done
+    return 1
+}
+
+if ! server=$(first_of mariadbd mysqld) || ! client=$(first_of mariadb mysql); then
+    echo "no server (mariadbd or mysqld, with its client) on this machine: nothing was compared"
+    exit 0
+fi
+folder=$(mktemp -d) || exit 1
+server_id=
+
+clean_up() { # stops the server that this script started, by its process, and takes its folder away
+    if [ -n "$server_id" ]; then
+        kill "$server_id" 2>/dev/null
+        wait "$server_id" 2>/dev/null
+    fi
+    rm -rf "$folder"
+}
+trap clean_up EXIT
+trap 'exit 130' INT
+trap 'exit 143' TERM
+
+fail() { # what failed, and a log
+    echo "check_server.sh: $1; the end of its log:" >&2
+    tail -n 15 "$2" >&2
+    exit 1
+}
+
+make_data() { # an empty server's data, whose root has no password
+    if installer=$(first_of mariadb-install-db mysql_install_db); then
+        "$installer" --no-defaults --user="$(id -un)" --datadir="$folder/data" \
+            --auth-root-authentication-method=normal --skip-test-db
+    else
+        "$server" --no-defaults --user="$(id -un)" --datadir="$folder/data" --initialize-insecure
+    fi
+}
+
+start_server() {
+    "$server" --no-defaults --user="$(id -un)" --datadir="$folder/data" --skip-networking \
+        --socket="$folder/socket" --pid-file="$folder/id" --loose-mysqlx=OFF \
+        >"$folder/server.log" 2>&1 &
+    server_id=$!
+    printf '[client]\nsocket=%s\nuser=root\n' "$folder/socket" >"$folder/client.cnf"
+    local tries=120
+    until echo 'SELECT 1;' | ask >/dev/null 2>&1; do
+        tries=$((tries - 1))
+        if [ "$tries" = 0 ] || ! kill -0 "$server_id" 2>/dev/null; then
+            fail "the server did not start" "$folder/server.log"
+        fi
+        sleep 0.5
+    done
+}
+
+ask() { # the client in batch mode, its statements from standard input
+    "$client" --defaults-file="$folder/client.cnf" --batch --skip-column-names
+}
+
+compare() { # a line of the catalog; from the folder, so that the catalog names its files as they lie
+    local name set
+    read -r _ name set _ <<<"$1"
+    echo "$1" >catalog.txt
+    python3 "$top/tools/check_pairs.py" make "$name" "$set" "$pairs" "$seed" >script.sql || return 1
+    "$mycoll" catalog.txt script.sql >mycoll.out
+    ask <script.sql >server.out || return 1
+    python3 "$top/tools/check_pairs.py" compare "$name" script.sql mycoll.out server.out
+}
+
+make_data >"$folder/install.log" 2>&1 || fail "no data folder was made" "$folder/install.log"
+start_server
+echo "server: $("$server" --version)"
+echo "program: $mycoll; $pairs pairs of strings for each collation, seed $seed"
+cd "$folder" || exit 1
+# shellcheck disable=SC2086 # the names are words of their own
+"$top/tools/export_weights.py" server --defaults-file "$folder/client.cnf" $collations \
+    >"$folder/lines.txt" || exit 1
+status=0
+while read -r line; do
+    compare "$line" || status=1
+done <"$folder/lines.txt"
+exit "$status"
