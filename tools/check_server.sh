@@ -6,8 +6,10 @@
 #
 # It installs nothing: where mariadbd or mysqld is on the machine, it starts a server of its own, on
 # a socket alone, in a folder of its own, and stops it at the end. Where there is none it says so,
-# with status 0. Status 1: some answers differ, or something failed. The program compared is
-# ./mycoll, or the one that the variable MYCOLL names, by its full path.
+# with status 0. Status 1: some answers differ, or something failed.
+#
+# Variables: MYCOLL is the full path of the program in place of ./mycoll, SERVER that of the server
+# in place of the first one found.
 top=$(cd "$(dirname "$0")/.." && pwd)
 pairs=${1:-2000}
 seed=${2:-1}
@@ -24,7 +26,7 @@ first_of() { # the path of the first of these commands that is there
     return 1
 }
 
-if ! server=$(first_of mariadbd mysqld) || ! client=$(first_of mariadb mysql); then
+if ! server=$(first_of ${SERVER:-mariadbd mysqld}) || ! client=$(first_of mariadb mysql); then
     echo "no server (mariadbd or mysqld, with its client) on this machine: nothing was compared"
     exit 0
 fi
@@ -49,9 +51,9 @@ fail() { # what failed, and a log
 }
 
 make_data() { # an empty server's data, whose root has no password
-    if installer=$(first_of mariadb-install-db mysql_install_db); then
-        "$installer" --no-defaults --user="$(id -un)" --datadir="$folder/data" \
-            --auth-root-authentication-method=normal --skip-test-db
+    if [[ $("$server" --version) == *MariaDB* ]]; then
+        "$(first_of mariadb-install-db mysql_install_db)" --no-defaults --user="$(id -un)" \
+            --datadir="$folder/data" --auth-root-authentication-method=normal --skip-test-db
     else
         "$server" --no-defaults --user="$(id -un)" --datadir="$folder/data" --initialize-insecure
     fi
@@ -59,7 +61,8 @@ make_data() { # an empty server's data, whose root has no password
 
 start_server() {
     "$server" --no-defaults --user="$(id -un)" --datadir="$folder/data" --skip-networking \
-        --socket="$folder/socket" --pid-file="$folder/id" --loose-mysqlx=OFF \
+        --socket="$folder/socket" --pid-file="$folder/id" --secure-file-priv="$folder" \
+        --loose-mysqlx=OFF \
         >"$folder/server.log" 2>&1 &
     server_id=$!
     printf '[client]\nsocket=%s\nuser=root\n' "$folder/socket" >"$folder/client.cnf"

@@ -141,7 +141,7 @@ class FromCharsetFiles(InFolder):
             run.stdout.splitlines()[1:],
             [
                 f"# latin1_named_ci: is only named in x.xml; {way}",
-                "# latin1_bin: is built into mycoll",
+                "# latin1_bin: is built into mycoll as latin1_bin",
             ],
         )
 
@@ -189,7 +189,7 @@ class FromServer(InFolder):
             ["default =", "61..7A @ 41", "A0 00", "DF 53 53", "FC 55 45"],
         )
         first = (self.top / "out" / "latin1_y_ci.txt").read_text().splitlines()[0]
-        self.assertIn("from the server 8.0.99 Stub, by: ", first)
+        self.assertIn("from the server MySQL 8.0.99 (Stub), by: ", first)
         self.assertIn("export_weights.py server --out out --user me latin1_y_ci", first)
         self.assertEqual(run.stdout, "collation latin1_y_ci latin1 table8 out/latin1_y_ci.txt\n")
 
@@ -223,6 +223,8 @@ class FromServer(InFolder):
              "status 1: ERROR 2013 (HY000) at line 5: Lost connection"),
             ("ends in the middle", {"end": "page ucs2_general_ci 2500"}, "ucs2_general_ci",
              "answered nothing to 'page ucs2_general_ci 2500'"),
+            ("an older name", {"end": "set utf8_general_ci"}, "utf8_general_ci",
+             "a newer server calls it utf8mb3_general_ci"),
             ("not general", {}, "utf8mb4_unicode_ci", "no collation of one weight"),
             ("a set that mycoll lacks", {}, "koi8r_general_ci", "does not begin with a character"),
             ("built in", {}, "latin1_bin", "latin1_bin: is a binary collation"),

@@ -100,9 +100,9 @@ def _hindrance(collation: ElementTree.Element, charset: str, name: str, file: st
     if "nopad" in flags or "_nopad_" in name:
         return "does not pad with spaces, as mycoll's kinds table8 and general do"
     if "binary" in flags or name.endswith("_bin"):
-        return "is built into mycoll" if name == f"{charset}_bin" else "is a binary collation"
+        return f"is built into mycoll as {charset}_bin"
     if charset in UNICODE_SETS and not is_general(name):
-        return "has no one weight for each character; mycoll's kinds uca400 to uca900 may suit"
+        return "is not exported; mycoll's kinds uca400 to uca900 may suit"
     if collation.find("rules") is not None:
         return "has rules, which mycoll reads in a form of its own"
     if collation.find("map") is None:

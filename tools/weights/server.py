@@ -52,8 +52,14 @@ def wishes_of(collations: list[str]) -> list[Wish]:
 def read_server(options: list[str], wishes: list[Wish]) -> list[Table]:
     """The tables of the collations, by one run of the client; a Fault where one can't be had."""
     answers = _ask(find_client(), options, wishes)
-    source = f"the server {' '.join(answers.take('server', 2))}"
+    source = _source(*answers.take("server", 2))
     return [_table(wish, answers, source) for wish in wishes]
+
+
+def _source(version: str, comment: str) -> str:
+    """Which server it is; MariaDB's version has its name in it."""
+    product = "MariaDB" if "mariadb" in f"{version} {comment}".lower() else "MySQL"
+    return f"the server {product} {version} ({comment.strip('()')})"
 
 
 def find_client() -> str:
@@ -185,7 +191,9 @@ def _client_fault(client: str, status: int, complaint: str) -> Fault:
 
 def _table(wish: Wish, answers: Answers, source: str) -> Table:
     if not answers.has(f"set {wish.collation}"):
-        raise Fault(f"{wish.collation}: the server does not list it", _ADVICE["1273"])
+        newer = wish.collation.replace("utf8_", "utf8mb3_", 1)
+        advice = f"a newer server calls it {newer}" if newer != wish.collation else _ADVICE["1273"]
+        raise Fault(f"{wish.collation}: the server does not list it", advice)
     [charset] = answers.take(f"set {wish.collation}", 1)
     if set_name(charset) != wish.charset:
         raise Fault(
