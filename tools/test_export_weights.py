@@ -214,7 +214,8 @@ class FromServer(InFolder):
             ("two in general", {"weights": {"00DF": "00530053"}}, "ucs2_general_ci",
              "U+00DF LATIN SMALL LETTER SHARP S: 2 weights (53 53), the file holds exactly one"),
             ("half a weight", {"weights": {"00DF": "00530"}}, "ucs2_general_ci", "'00530'"),
-            ("NULL", {"weights": {"61": "NULL"}}, "latin1_y_ci", "'NULL' as the weights of 61"),
+            ("NULL", {"weights": {"61": "NULL"}}, "latin1_y_ci",
+             "the server gives 'NULL' as the weights of byte 61 LATIN SMALL LETTER A"),
             ("no padding", {"pads": "0"}, "latin1_y_ci", "latin1_y_ci: does not pad with spaces"),
             ("a contraction", {"together": ["6368", "C0"]}, "latin1_y_ci",
              "latin1_y_ci: some two characters have other weights together than one by one"),
@@ -249,6 +250,15 @@ class FromServer(InFolder):
             ["--defaults-file=f", "--socket=/s", "--password", "--batch", "--skip-column-names"],
         )
         self.assertEqual(self.run_server({}, "--password=x", "ascii_y_ci").returncode, 2)
+
+    def test_places_that_are_refused(self) -> None:
+        (self.top / "a b").mkdir()
+        rows = [("nowhere", "nowhere: no folder"), ("a b", "a catalog cannot name the file 'a b/")]
+        for folder, said in rows:
+            with self.subTest(folder):
+                run = self.run_server({}, "--out", folder, "latin1_y_ci")
+                self.refused(run, said)
+                self.assertEqual(os.listdir(self.top / "a b"), [])
 
     def test_no_client(self) -> None:
         self.refused(self.run_export("server", "--out", "out", "latin1_y_ci"), "neither mariadb")

@@ -44,6 +44,7 @@ def read_files(paths: list[str], origin: str) -> CharsetFiles:
 
 
 def _content(path: str) -> bytes:
+    """The bytes of a file."""
     try:
         return Path(path).read_bytes()
     except OSError as error:
@@ -54,6 +55,7 @@ def _content(path: str) -> bytes:
 
 
 def _root(path: str, content: bytes) -> ElementTree.Element:
+    """The element of a charset file that holds all others."""
     try:
         root = ElementTree.fromstring(content)
     except ElementTree.ParseError as error:
@@ -69,6 +71,7 @@ def _root(path: str, content: bytes) -> ElementTree.Element:
 def _add_charset(
     found: CharsetFiles, charset: ElementTree.Element, path: str, source: str
 ) -> None:
+    """Adds the collations of one character set."""
     name = set_name(charset.get("name", ""))
     if name not in BYTE_SETS + UNICODE_SETS:
         if name != "binary":
@@ -85,6 +88,7 @@ def _add_charset(
 
 
 def _name(collation: ElementTree.Element, path: str) -> str:
+    """A collation's name, folded as a catalog folds it."""
     name = collation.get("name", "").lower()
     if not is_collation_name(name):
         raise Fault(

@@ -57,6 +57,7 @@ class Target:
         return "\n".join(comments + table.lines()) + "\n"
 
     def _catalog_line(self, table: Table) -> str:
+        """The line of a catalog that stands where the command was run."""
         return table.catalog_line(str(self.path(table.collation)))
 
 

@@ -74,6 +74,7 @@ def _folded(weights: Mapping[int, int], digits: int) -> Iterator[str]:
 
 
 def _run_line(run: list[int], weight: int, digits: int) -> str:
+    """The line of a run whose first character has this weight."""
     if len(run) == 1:
         return f"{run[0]:0{digits}X} {weight:0{digits}X}"
     return f"{run[0]:0{digits}X}..{run[-1]:0{digits}X} @ {weight:0{digits}X}"
@@ -88,6 +89,7 @@ def _misfits_of(table: Table) -> Iterator[str]:
 
 
 def _misfit(table: Table, code: int, weights: tuple[int, ...]) -> str:
+    """What the format can't say about a character; empty where it fits."""
     most = 2 if table.kind == "table8" and code != 0x20 else 1
     greatest = 0xFF if table.kind == "table8" else 0xFFFF
     if not 1 <= len(weights) <= most:
@@ -102,10 +104,12 @@ def _misfit(table: Table, code: int, weights: tuple[int, ...]) -> str:
 
 
 def _shown(weights: tuple[int, ...]) -> str:
+    """Weights as messages show them."""
     return " ".join(f"{weight:X}" for weight in weights) or "none"
 
 
 def _unfit(table: Table, misfits: list[str]) -> Fault:
+    """The first characters that don't fit, and how many there are."""
     shown = "".join(f"\n    {misfit}" for misfit in misfits[:SHOWN])
     more = len(misfits) - SHOWN
     rest = f"\n    and {more} more" if more > 0 else ""
