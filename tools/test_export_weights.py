@@ -10,9 +10,12 @@ import subprocess
 import sys
 import tempfile
 import unittest
+from collections.abc import Callable
 from pathlib import Path
+from unittest import mock
 
 from weights.fault import Fault
+from weights.output import Target
 from weights.table import Table
 
 EXPORT = Path(__file__).resolve().parent / "export_weights.py"
@@ -29,6 +32,8 @@ for line in sys.stdin:
         sys.exit(1)
     if label == told.get("end"):
         sys.exit(0)
+    if label == told.get("short"):
+        line = line.rpartition(",")[0]
     fields = re.findall("WEIGHT_STRING\\\\(_[a-z0-9]+ X'([0-9A-F]*)'", line)
     fields = [told.get("weights", {}).get(each, each) for each in fields]
     if label.startswith("pairs "):
@@ -50,14 +55,12 @@ UPPER_UCS2 = {f"00{byte}": f"00{weight}" for byte, weight in UPPER.items()}
 
 
 def charset_file(numbers: list[str], charset: str = "latin1") -> str:
-    """A charset file with one map of weights, one collation that is only named, and a _bin."""
+    """A charset file with one map of weights."""
     weights = " ".join(numbers)
     return f"""<?xml version='1.0' encoding="utf-8"?>
 <charsets><charset name="{charset}">
 <lower><map>00 01</map></lower>
 <collation name="{charset}_x_ci"><map>{weights}</map></collation>
-<collation name="{charset}_named_ci"/>
-<collation name="{charset}_bin" flag="binary"/>
 </charset></charsets>
 """
 
@@ -125,6 +128,7 @@ class FromCharsetFiles(InFolder):
     def test_a_map_of_256_numbers(self) -> None:
         run = self.run_xml(charset_file(upper_map()))
         self.assertEqual(run.returncode, 0, run.stderr)
+        self.assertEqual(self.written(), ["latin1_x_ci.txt"])
         self.assertEqual(self.lines("latin1_x_ci.txt"), ["default =", "61..7A @ 41"])
         first, second = (self.top / "out" / "latin1_x_ci.txt").read_text().splitlines()[:2]
         self.assertRegex(first, r"^# latin1_x_ci, the weights of latin1 as a table8 file, from ")
@@ -132,18 +136,32 @@ class FromCharsetFiles(InFolder):
         self.assertRegex(first, r"export_weights\.py xml --out out --origin 'MySQL 8\.0\.1' x\.xml")
         line = "collation latin1_x_ci latin1 table8 out/latin1_x_ci.txt"
         self.assertEqual(second, f"# In a catalog: {line}")
-        self.assertEqual(run.stdout.splitlines()[0], line)
+        self.assertEqual(run.stdout, f"{line}\n")
 
-    def test_collations_that_are_only_named_are_listed(self) -> None:
-        run = self.run_xml(charset_file(upper_map()))
-        way = "look in latin1.xml, or ask a server: tools/export_weights.py server latin1_named_ci"
-        self.assertEqual(
-            run.stdout.splitlines()[1:],
-            [
-                f"# latin1_named_ci: is only named in x.xml; {way}",
-                "# latin1_bin: is built into mycoll as latin1_bin",
-            ],
-        )
+    def test_collations_without_a_file_are_listed(self) -> None:
+        ask = "ask a server: tools/export_weights.py server"
+        rows = [
+            ("latin1", '<collation name="latin1_german2_ci"/>',
+             f"latin1_german2_ci: is only named in x.xml; look in latin1.xml, or {ask}"
+             " latin1_german2_ci"),
+            ("utf8mb4", '<collation name="utf8mb4_general_ci" id="45"/>',
+             f"utf8mb4_general_ci: is only named in x.xml; {ask} utf8mb4_general_ci"),
+            ("utf8mb4", '<collation name="utf8mb4_x_ci"><rules/></collation>',
+             "utf8mb4_x_ci: is not exported; mycoll's kinds uca400 to uca900 may suit"),
+            ("latin1", '<collation name="latin1_x_ci"><map/><flag>nopad</flag></collation>',
+             "latin1_x_ci: does not pad with spaces, as mycoll's kinds table8 and general do"),
+            ("utf8", '<collation name="utf8_bin"><flag>binary</flag></collation>',
+             "utf8_bin: is built into mycoll as utf8mb3_bin"),
+            ("koi8r", '<collation name="koi8r_general_ci"><map/></collation>',
+             "skipped, mycoll does not have these character sets: koi8r"),
+        ]
+        for charset, collation, remark in rows:
+            with self.subTest(collation):
+                run = self.run_xml(
+                    f'<charsets><charset name="{charset}">{collation}</charset></charsets>'
+                )
+                self.assertEqual((run.returncode, run.stdout), (0, f"# {remark}\n"))
+                self.assertEqual(self.written(), [])
 
     def test_files_that_are_refused(self) -> None:
         own = upper_map()
@@ -159,11 +177,6 @@ class FromCharsetFiles(InFolder):
         for why, text, said in rows:
             with self.subTest(why):
                 self.refused(self.run_xml(text), said)
-
-    def test_a_set_that_mycoll_lacks_is_skipped(self) -> None:
-        run = self.run_xml(charset_file(upper_map(), "koi8r"))
-        self.assertEqual((run.returncode, self.written()), (0, []))
-        self.assertIn("mycoll does not have these character sets: koi8r", run.stdout)
 
     def test_nothing_is_overwritten_without_force(self) -> None:
         place = self.top / "out" / "latin1_x_ci.txt"
@@ -194,12 +207,12 @@ class FromServer(InFolder):
         self.assertEqual(run.stdout, "collation latin1_y_ci latin1 table8 out/latin1_y_ci.txt\n")
 
     def test_a_general_file(self) -> None:
-        told = {"weights": {**UPPER_UCS2, "00DF": "0053", "D7FF": "0100", "E000": "0101"}}
+        told = {"weights": {**UPPER_UCS2, "00DF": "0053", "D7FF": "0100", "E000": "0101", "FFFF": "0000"}}
         run = self.run_server(told, "ucs2_general_ci")
         self.assertEqual(run.returncode, 0, run.stderr)
         self.assertEqual(
             self.lines("ucs2_general_ci.txt"),
-            ["0061..007A @ 0041", "00DF 0053", "D7FF 0100", "E000 0101"],
+            ["0061..007A @ 0041", "00DF 0053", "D7FF 0100", "E000 0101", "FFFF 0000"],
         )
         line = "collation ucs2_general_ci ucs2 general out/ucs2_general_ci.txt\n"
         self.assertEqual(run.stdout, line)
@@ -209,7 +222,8 @@ class FromServer(InFolder):
         rows = [
             ("three weights", {"weights": {"FC": "555545"}}, "latin1_y_ci",
              "byte FC LATIN SMALL LETTER U WITH DIAERESIS: 3 weights (55 55 45)"),
-            ("no weight", {"weights": {"00": ""}}, "latin1_y_ci", "byte 00: 0 weights (none)"),
+            ("no weight", {"weights": {"8A": ""}}, "latin1_y_ci",
+             "byte 8A LATIN CAPITAL LETTER S WITH CARON: 0 weights (none)"),
             ("two for the space", {"weights": {"20": "2020"}}, "latin1_y_ci", byte_20),
             ("two in general", {"weights": {"00DF": "00530053"}}, "ucs2_general_ci",
              "U+00DF LATIN SMALL LETTER SHARP S: 2 weights (53 53), the file holds exactly one"),
@@ -226,6 +240,8 @@ class FromServer(InFolder):
              "answered nothing to 'page ucs2_general_ci 2500'"),
             ("an older name", {"end": "set utf8_general_ci"}, "utf8_general_ci",
              "a newer server calls it utf8mb3_general_ci"),
+            ("a field is missing", {"short": "page latin1_y_ci 0"}, "latin1_y_ci",
+             "answered 255 fields to 'page latin1_y_ci 0', wanted 256 fields"),
             ("not general", {}, "utf8mb4_unicode_ci", "no collation of one weight"),
             ("a set that mycoll lacks", {}, "koi8r_general_ci", "does not begin with a character"),
             ("built in", {}, "latin1_bin", "latin1_bin: is a binary collation"),
@@ -252,16 +268,53 @@ class FromServer(InFolder):
         self.assertEqual(self.run_server({}, "--password=x", "ascii_y_ci").returncode, 2)
 
     def test_places_that_are_refused(self) -> None:
-        (self.top / "a b").mkdir()
-        rows = [("nowhere", "nowhere: no folder"), ("a b", "a catalog cannot name the file 'a b/")]
+        rows = [
+            ("nowhere", "nowhere: no folder"),
+            ("out/a b", "a catalog cannot name the file 'out/a b/latin1_y_ci.txt'"),
+            ("out/#", "a catalog cannot name the file 'out/#/latin1_y_ci.txt'"),
+        ]
         for folder, said in rows:
             with self.subTest(folder):
+                if folder != "nowhere":
+                    (self.top / folder).mkdir()
                 run = self.run_server({}, "--out", folder, "latin1_y_ci")
-                self.refused(run, said)
-                self.assertEqual(os.listdir(self.top / "a b"), [])
+                self.assertEqual((run.returncode, run.stdout), (1, ""))
+                self.assertIn(said, run.stderr)
+                self.assertEqual([each for each in (self.top / "out").rglob("*.txt")], [])
 
     def test_no_client(self) -> None:
         self.refused(self.run_export("server", "--out", "out", "latin1_y_ci"), "neither mariadb")
+
+
+class OnADisk(unittest.TestCase):
+    """A device that fails in the middle leaves no half file."""
+
+    def test_what_a_failed_move_leaves(self) -> None:
+        weights = {byte: (byte,) for byte in range(0x100)}
+        tables = [Table(name, "latin1", weights, "") for name in ("a_ci", "b_ci")]
+        rows: list[tuple[str, bool, list[str], str]] = [
+            ("link", False, [], "nothing was written"),
+            ("replace", True, ["a_ci.txt"], "written before that: "),
+        ]
+        for call, force, left, outcome in rows:
+            with self.subTest(call), tempfile.TemporaryDirectory() as folder:
+                with mock.patch.object(os, call, fails_at_second(getattr(os, call))):
+                    with self.assertRaises(Fault) as raised:
+                        Target(folder, force).write(tables, "")
+                self.assertEqual(os.listdir(folder), left)
+                self.assertIn(outcome, raised.exception.outcome)
+
+
+def fails_at_second(call: Callable[[Path, Path], None]) -> Callable[[Path, Path], None]:
+    """The call, but the second time the device is full."""
+    turns = iter([False, True])
+
+    def played(old: Path, new: Path) -> None:
+        if next(turns):
+            raise OSError(28, "No space left on device", str(new))
+        call(old, new)
+
+    return played
 
 
 class Formats(unittest.TestCase):

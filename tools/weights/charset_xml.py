@@ -109,7 +109,7 @@ def _hindrance(collation: ElementTree.Element, charset: str, name: str, file: st
         return "is not exported; mycoll's kinds uca400 to uca900 may suit"
     if collation.find("rules") is not None:
         return "has rules, which mycoll reads in a form of its own"
-    if collation.find("map") is None:
+    if charset in UNICODE_SETS or collation.find("map") is None:
         other = charset in BYTE_SETS and file != f"{charset}.xml"
         look = f"look in {charset}.xml, or " if other else ""
         return f"is only named in {file}; {look}ask a server: tools/export_weights.py server {name}"

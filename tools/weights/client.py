@@ -16,6 +16,7 @@ _REACH = "give --socket PATH, or --host H and --port P, of a server that runs"
 _ADVICE = {
     "1045": "give --user, and the password in the client's option file or by --ask-password",
     "1273": UNKNOWN,
+    "1305": "the server is too old: WEIGHT_STRING came with MySQL 5.6 and MariaDB 10.0.5",
     "2002": _REACH,
     "2003": _REACH,
     "2005": _REACH,

@@ -69,19 +69,19 @@ def _plain(words: str) -> str:
 def _place(texts: dict[Path, str], force: bool) -> None:
     """Writes all files beside their places, and moves them there when all are whole."""
     beside = {path: path.with_name(f".{path.name}.{os.getpid()}") for path in texts}
-    placed: list[str] = []
+    placed: list[Path] = []
     try:
         for path, text in texts.items():
             with beside[path].open("x", encoding="ascii") as file:
                 file.write(text)
         for path in texts:
             _move(beside[path], path, force)
-            placed.append(str(path))
+            placed.append(path)
     except OSError as error:
         raise Fault(
             f"{error.filename}: {error.strerror}",
             "see that the folder has room and may be written",
-            f"written before that: {' '.join(placed)}" if placed else "nothing was written",
+            _taken_back(placed, force),
         ) from error
     finally:
         for path in beside.values():
@@ -94,3 +94,12 @@ def _move(beside: Path, path: Path, force: bool) -> None:
         os.replace(beside, path)
     else:
         os.link(beside, path)
+
+
+def _taken_back(placed: list[Path], force: bool) -> str:
+    """What a run leaves behind that failed when these files had their places."""
+    if force and placed:
+        return f"written before that: {' '.join(str(path) for path in placed)}"
+    for path in placed:
+        path.unlink()
+    return "nothing was written"
