@@ -207,8 +207,8 @@ class FromServer(InFolder):
         self.assertEqual(run.stdout, "collation latin1_y_ci latin1 table8 out/latin1_y_ci.txt\n")
 
     def test_a_general_file(self) -> None:
-        told = {"weights": {**UPPER_UCS2, "00DF": "0053", "D7FF": "0100", "E000": "0101", "FFFF": "0000"}}
-        run = self.run_server(told, "ucs2_general_ci")
+        others = {"00DF": "0053", "D7FF": "0100", "E000": "0101", "FFFF": "0000"}
+        run = self.run_server({"weights": {**UPPER_UCS2, **others}}, "ucs2_general_ci")
         self.assertEqual(run.returncode, 0, run.stderr)
         self.assertEqual(
             self.lines("ucs2_general_ci.txt"),
