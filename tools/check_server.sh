@@ -14,7 +14,10 @@ top=$(cd "$(dirname "$0")/.." && pwd)
 pairs=${1:-2000}
 seed=${2:-1}
 mycoll=${MYCOLL:-$top/mycoll}
-collations="latin1_swedish_ci latin1_german1_ci latin1_german2_ci ascii_general_ci utf8mb4_general_ci"
+collations=(latin1_swedish_ci latin1_german1_ci latin1_german2_ci ascii_general_ci
+    utf8mb4_general_ci)
+servers=(mariadbd mysqld)
+[ -z "$SERVER" ] || servers=("$SERVER")
 PATH=$PATH:/usr/sbin:/usr/local/sbin:/usr/libexec
 export PYTHONDONTWRITEBYTECODE=1
 
@@ -26,8 +29,8 @@ first_of() { # the path of the first of these commands that is there
     return 1
 }
 
-if ! server=$(first_of ${SERVER:-mariadbd mysqld}) || ! client=$(first_of mariadb mysql); then
-    echo "no server (mariadbd or mysqld, with its client) on this machine: nothing was compared"
+if ! server=$(first_of "${servers[@]}") || ! client=$(first_of mariadb mysql); then
+    echo "no server (${servers[*]}) with its client on this machine: nothing was compared"
     exit 0
 fi
 folder=$(mktemp -d) || exit 1
@@ -80,7 +83,7 @@ ask() { # the client in batch mode, its statements from standard input
     "$client" --defaults-file="$folder/client.cnf" --batch --skip-column-names
 }
 
-compare() { # a line of the catalog; from the folder, so that the catalog names its files as they lie
+compare() { # a line of the catalog, whose file lies in the folder of the run
     local name set
     read -r _ name set _ <<<"$1"
     echo "$1" >catalog.txt
@@ -95,11 +98,10 @@ start_server
 echo "server: $("$server" --version)"
 echo "program: $mycoll; $pairs pairs of strings for each collation, seed $seed"
 cd "$folder" || exit 1
-# shellcheck disable=SC2086 # the names are words of their own
-"$top/tools/export_weights.py" server --defaults-file "$folder/client.cnf" $collations \
-    >"$folder/lines.txt" || exit 1
+"$top/tools/export_weights.py" server --defaults-file "$folder/client.cnf" "${collations[@]}" \
+    >lines.txt || exit 1
 status=0
 while read -r line; do
     compare "$line" || status=1
-done <"$folder/lines.txt"
+done <lines.txt
 exit "$status"
