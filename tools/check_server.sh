@@ -65,8 +65,7 @@ make_data() { # an empty server's data, whose root has no password
 start_server() {
     "$server" --no-defaults --user="$(id -un)" --datadir="$folder/data" --skip-networking \
         --socket="$folder/socket" --pid-file="$folder/id" --secure-file-priv="$folder" \
-        --loose-mysqlx=OFF \
-        >"$folder/server.log" 2>&1 &
+        --loose-mysqlx=OFF >"$folder/server.log" 2>&1 &
     server_id=$!
     printf '[client]\nsocket=%s\nuser=root\n' "$folder/socket" >"$folder/client.cnf"
     local tries=120
@@ -88,7 +87,7 @@ compare() { # a line of the catalog, whose file lies in the folder of the run
     read -r _ name set _ <<<"$1"
     echo "$1" >catalog.txt
     python3 "$top/tools/check_pairs.py" make "$name" "$set" "$pairs" "$seed" >script.sql || return 1
-    "$mycoll" catalog.txt script.sql >mycoll.out
+    "$mycoll" catalog.txt script.sql >mycoll.out </dev/null
     ask <script.sql >server.out || return 1
     python3 "$top/tools/check_pairs.py" compare "$name" script.sql mycoll.out server.out
 }
