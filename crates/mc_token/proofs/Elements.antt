@@ -1,5 +1,6 @@
 -- One step of each recursion over the bytes of a script, at a place.
-use Rattle.std.proofs.Common.{◌≡◌, ℕ, ◌+◌, ◌-◌, ◌<◌, ◌≤◌, ◌==◌, ◌&&◌, ◌||◌, not, cond, List, [], ◌∷◌, Some, None, length, take, drop, get_or, ltb, suc, zero, refl, ap, ◌∙◌, arith}
+use Rattle.std.proofs.Common.{◌≡◌, ℕ, ◌+◌, ◌-◌, ◌<◌, ◌≤◌, ◌==◌, ◌&&◌, ◌||◌, Bool, true, false, not, cond, List, [], ◌∷◌, Some, None, length, take, drop, get_or, ltb, suc, zero, refl, ap, sym, ◌∙◌, arith}
+use Rattle.std.specs.List.{position_or_len}
 use Rattle.std.proofs.lemmas.List.{at_drop_more, at_drop_all, get_or-drop, drop-drop, length-drop, take_all}
 use Rattle.std.proofs.lemmas.Bool.Decides.{nat_tests}
 use Rattle.mc_token.specs.Bytes.{star, slash, backslash}
@@ -53,6 +54,49 @@ quote_end-step quote bytes at h =
     let longer = longer_at bytes at in
     grind (arith, nat_tests)
 
+-- The byte is the quote or a backslash.
+abbrev pub is_special : ℕ → ℕ → Bool
+is_special quote byte = byte == quote || byte == backslash
+
+-- How many bytes stand before the first of those, or before the end.
+abbrev pub plain_len : ℕ → List ℕ → ℕ
+plain_len quote bytes = position_or_len (is_special quote) bytes
+
+pub drop_one_more : (byte n : ℕ) (bytes : List ℕ) → drop (1 + n) (byte ∷ bytes) ≡ drop n bytes
+drop_one_more byte n bytes = let e : 1 + n ≡ suc n = omega arith in rw e refl
+
+-- the first of the bytes, beside those behind it
+quote_end-plain-one : (quote at byte : ℕ) (behind : List ℕ) (t : Bool) → is_special quote byte ≡ t
+    → quote_end quote (at + 1) behind ≡ quote_end quote (at + 1 + plain_len quote behind) (drop (plain_len quote behind) behind)
+    → quote_end quote at (byte ∷ behind) ≡ quote_end quote (at + plain_len quote (byte ∷ behind)) (drop (plain_len quote (byte ∷ behind)) (byte ∷ behind))
+quote_end-plain-one quote at byte behind true e h = rw e (ap (λ n. quote_end quote n (byte ∷ behind)) (omega arith))
+quote_end-plain-one quote at byte behind false e h =
+    let n = plain_len quote behind in
+    let front = quote_end-front quote at byte behind in
+    let left = drop_one_more byte n behind in
+    let sum : at + (1 + n) ≡ at + 1 + n = omega arith in
+    grind (arith, nat_tests)
+
+-- Bytes that are neither the quote nor a backslash are passed over.
+quote_end-plain : (quote at : ℕ) (bytes : List ℕ)
+    → quote_end quote at bytes ≡ quote_end quote (at + plain_len quote bytes) (drop (plain_len quote bytes) bytes)
+unfolding quote_end
+quote_end-plain quote at [] = refl
+quote_end-plain quote at (byte ∷ behind) = quote_end-plain-one quote at byte behind (is_special quote byte) refl (quote_end-plain quote (at + 1) behind)
+
+-- So are a byte at a place that is neither, and those behind it.
+pub quote_end-run : (quote : ℕ) (bytes : List ℕ) (at n : ℕ) → at < length bytes → is_special quote (get_or bytes at 0) ≡ false
+    → n ≡ plain_len quote (take (length bytes - (at + 1)) (drop (at + 1) bytes))
+    → quote_end quote (at + (1 + n)) (drop (at + (1 + n)) bytes) ≡ quote_end quote at (drop at bytes)
+quote_end-run quote bytes at n h plain e =
+    let sum : at + 1 + n ≡ at + (1 + n) = omega arith in
+    let run = quote_end-plain quote (at + 1) (drop (at + 1) bytes)
+    ∙ ap (λ k. quote_end quote (at + 1 + k) (drop k (drop (at + 1) bytes))) (sym (e ∙ ap (plain_len quote) (behind_of bytes at)))
+    ∙ ap (quote_end quote (at + 1 + n)) (drop-drop n (at + 1) bytes ∙ ap (λ k. drop k bytes) (omega arith))
+    ∙ ap (λ k. quote_end quote k (drop (at + (1 + n)) bytes)) sum in
+    let step = quote_end-step quote bytes at h in
+    grind (arith, nat_tests)
+
 -- skipping bytes is dropping them
 pub elements_behind-drop : (skipped : ℕ) (bytes : List ℕ) → elements_behind skipped bytes ≡ elements (drop skipped bytes)
 unfolding elements_behind
@@ -79,4 +123,4 @@ pub ruleset elements_steps = (elements-step, elements-done)
 
 pub ruleset block_end_steps = (block_end-step, block_end-done)
 
-pub ruleset quote_end_steps = (quote_end-step, quote_end-done)
+pub ruleset quote_end_steps = (quote_end-run, quote_end-step, quote_end-done)

@@ -1,4 +1,5 @@
 ghost use Rattle.std.specs.Prelude.{◌≡◌, ◌∷◌, ◌<◌, ◌≤◌, ◌+◌, ◌==◌, ◌&&◌, ◌||◌, false, not, nat_lt, drop, length, slice_index, IfSome, IsTrue};
+ghost use Rattle.std.specs.List.{position_or_len};
 ghost use Rattle.mc_token.specs.Bytes.{is_space, star, slash, backslash};
 ghost use Rattle.mc_token.specs.Elements.{
   line_len,
@@ -169,10 +170,23 @@ pub fn quote_end(quote: u8, behind: &[u8]) -> Option<usize>
         if hides_next(quote, behind[at]) {
             at += 2;
         } else {
-            at += 1;
+            at += 1 + plain_len(quote, &behind[at + 1..]);
         }
     }
     None
+}
+
+/// How many bytes stand before the first quote or backslash, or before the end.
+pub fn plain_len(quote: u8, bytes: &[u8]) -> usize
+    ensures len { result ≡ position_or_len (λ byte. byte == quote || byte == backslash) bytes.now }
+    ensures within { result ≤ length bytes.now }
+{
+    for (i, byte) in bytes.iter().enumerate() {
+        if hides_next(quote, *byte) {
+            return i;
+        }
+    }
+    bytes.len()
 }
 
 /// Whether the byte at this place is the quote, and isn't doubled.
@@ -184,7 +198,8 @@ fn is_closing(quote: u8, bytes: &[u8], at: usize) -> bool
     bytes[at] == quote && !(at + 1 < bytes.len() && bytes[at + 1] == quote)
 }
 
-/// Whether the byte, where it doesn't close the string, takes the next one with it.
+/// Whether the byte is the quote or a backslash: where it doesn't close the string, it takes the next
+/// one with it.
 fn hides_next(quote: u8, byte: u8) -> bool
     ensures { result ≡ (byte == quote || byte == backslash) }
 {

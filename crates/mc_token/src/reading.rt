@@ -6,6 +6,7 @@ ghost use Rattle.mc_token.specs.Hexadecimal.{bytes_of_digits};
 ghost use Rattle.mc_token.specs.Spellings.{least_len};
 
 use crate::Lexeme;
+use crate::element::plain_len;
 use crate::hexadecimal::bytes_of_digits;
 use crate::spelling::Shape;
 use mc_base::{NoMemory, Text};
@@ -47,6 +48,7 @@ fn folded(alloc: Global, bytes: &[u8]) -> Result<Text, NoMemory>
 }
 
 /// The text of a string, by the bytes between its quotes.
+// The bytes between two pairs are copied as one slice.
 #[tactic(auto, using(crate::proofs::Lexemes::content_steps))]
 fn content(alloc: Global, quote: u8, inside: &[u8]) -> Result<Text, NoMemory>
     ensures { IfOk result (λ text. text ≡ content quote inside.now) }
@@ -58,8 +60,9 @@ fn content(alloc: Global, quote: u8, inside: &[u8]) -> Result<Text, NoMemory>
             push_pair(&mut text, inside[at], inside[at + 1])?;
             at += 2;
         } else {
-            text.push(inside[at])?;
-            at += 1;
+            let end = at + 1 + plain_len(quote, &inside[at + 1..]);
+            text.extend_from_slice(&inside[at..end])?;
+            at = end;
         }
     }
     Ok(text)
