@@ -4,3 +4,4 @@ pub mod Conversions
 pub mod CodePoints
 pub mod Lossless
 pub mod Caps
+pub mod Texts

@@ -1,12 +1,18 @@
 ghost use Rattle.mc_charset.specs.Chars.{spell, chars, Spells, IsWellFormed};
-ghost use Rattle.mc_convert.specs.Conversion.{IsConverted, KeepsBytes, is_binary, stand_in};
+ghost use Rattle.mc_convert.specs.Conversion.{
+  IsConverted,
+  KeepsBytes,
+  converted_text,
+  is_binary,
+  stand_in,
+};
 ghost use Rattle.std.specs.Bool.{OnTrue};
 ghost use Rattle.std.specs.Option.{option_map};
 ghost use Rattle.std.specs.Prelude.{◌≡◌, ◌++◌, IfOk, OnOk, OnErr, map, false};
 
 use crate::plain::is_plain;
 use mc_base::{NoMemory, Text};
-use mc_charset::{CharAt, Charset, PutChar, chars_law, next_char, put_char};
+use mc_charset::{CharAt, Charset, PutChar, bytes_law, chars_law, next_char, put_char};
 use std::alloc::Global;
 
 const QUESTION_MARK: u32 = 0x3F;
@@ -15,6 +21,17 @@ const QUESTION_MARK: u32 = 0x3F;
 /// To binary the bytes stay; from binary a byte below 80 is that character and any other one
 /// becomes `?`.
 pub fn convert(alloc: Global, from: Charset, to: Charset, text: &[u8]) -> Result<Text, NoMemory>
+    requires { IsWellFormed from text.now }
+    ensures converts { IfOk result (λ converted. IsConverted from to text.now converted) }
+    ensures is { IfOk result (λ converted. converted ≡ converted_text from to text.now) }
+    ensures well_formed { IfOk result (λ converted. IsWellFormed to converted) }
+{
+    bytes_law(text);
+    converted(alloc, from, to, text)
+}
+
+/// The text in another set, by the spellings that it has there.
+fn converted(alloc: Global, from: Charset, to: Charset, text: &[u8]) -> Result<Text, NoMemory>
     requires { IsWellFormed from text.now }
     ensures { IfOk result (λ converted. IsConverted from to text.now converted) }
 {
