@@ -8,7 +8,14 @@ ghost use Rattle.mc_charset.specs.Chars.{
 };
 ghost use Rattle.mc_charset.specs.Names.{same_set};
 ghost use Rattle.mc_charset.specs.declared.charset.Charset.{Charset};
-ghost use Rattle.mc_charset.specs.declared.charset.Charset.TheVariants.{Utf8mb4, Binary, Latin1};
+ghost use Rattle.mc_charset.specs.declared.charset.Charset.TheVariants.{
+  Latin1,
+  Utf8mb3,
+  Utf8mb4,
+  Ucs2,
+  Utf16,
+  Binary,
+};
 ghost use Rattle.std.specs.Prelude.{
   IsUtf8,
   IsTrue,
@@ -34,6 +41,8 @@ pub fn chars_law()
         → spell set code ≡ Some front → spell set other ≡ Some (front ++ more) → (code ≡ other) × (more ≡ []) }
     ensures joins { (set : Charset) (codes more text rest : List ℕ)
         → Spells set codes text → Spells set more rest → Spells set (codes ++ more) (text ++ rest) }
+    ensures fronts { (set : Charset) (codes front rest : List ℕ)
+        → Spells set codes front → chars set (front ++ rest) ≡ codes ++ chars set rest }
     ensures tells { (set : Charset) (text : List ℕ)
         → IsTrue (is_spelled set text) ↔ IsWellFormed set text }
     ensures code_point { (set : Charset) (code : ℕ) (front : List ℕ)
@@ -51,6 +60,12 @@ pub fn set_names_law()
 pub fn utf8_law()
     ensures read { (text : List ℕ) → IsUtf8 text → IsWellFormed Utf8mb4 text }
     ensures written { (text : List ℕ) → IsWellFormed Utf8mb4 text → IsUtf8 text }
+{}
+
+/// utf8mb4 has the texts of utf8mb3, and utf16 those of ucs2, with the same characters.
+pub fn wider_law()
+    ensures utf8mb4 { (codes text : List ℕ) → Spells Utf8mb3 codes text → Spells Utf8mb4 codes text }
+    ensures utf16 { (codes text : List ℕ) → Spells Ucs2 codes text → Spells Utf16 codes text }
 {}
 
 /// Each byte is a character of binary and of latin1, so each text is well formed in these sets.
