@@ -5,3 +5,4 @@ pub mod CodePoints
 pub mod Lossless
 pub mod Caps
 pub mod Texts
+pub mod StepLemmas

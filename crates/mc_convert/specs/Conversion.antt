@@ -45,6 +45,11 @@ AllFit from to text =
 abbrev pub IsLossless : Charset → Charset → List ℕ → Type 0
 IsLossless from to text = MatchBool (is_binary to) Unit (AllFit from to text)
 
+-- `to` has each spelling of `from`. Both are binary, or none is.
+pub record HasSpellings (to from : Charset) : Type 0 where
+  pub spelled : (codes text : List ℕ) → Spells from codes text → Spells to codes text
+  pub alike : is_binary from ≡ is_binary to
+
 -- Each character has in `to` the bytes that it has in the text.
 pub record KeepsBytes (from to : Charset) (text : List ℕ) : Type 0 where
   pub spelled : Spells to (map (stand_in from to) (chars from text)) text

@@ -44,7 +44,7 @@ fn missing(unit: usize, len: usize) -> usize
 }
 
 /// How many bytes the shortest spellings of a set have.
-fn unit(set: Charset) -> usize
+pub(crate) fn unit(set: Charset) -> usize
     ensures is { result ≡ unit_len set }
     ensures positive { 0 < result }
     ensures small { result < 5 }
