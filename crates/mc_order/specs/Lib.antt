@@ -13,3 +13,5 @@ pub mod Bin
 pub mod Spelling
 pub mod BinLaws
 pub mod Boundary
+pub mod Toy
+pub mod ToyLaws

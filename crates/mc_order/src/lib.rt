@@ -22,6 +22,10 @@ mod shared;
 mod stream;
 #[cfg(test)]
 mod tests;
+#[cfg(test)]
+mod toy;
+#[cfg(test)]
+mod toy_weights;
 
 pub use bin::BinCollation;
 pub use book::Book;
