@@ -183,7 +183,7 @@ class Tables(InFolder):
             "| `mc_b` | 8 | 1 | 2 | 3 | 4 | 30 |  |  | 30 |",
             "| `mc_c` |  | 1 | 2 | 3 | 4 |  |  |  |  |",
             "",
-            "From nothing, all crates together: 3 processor minutes, 1 of them not measured yet.",
+            "From nothing, all crates together: 3 processor minutes; not measured yet: 1 crates.",
             END, "Two.",
         ])
         self.assertEqual(text, between_marks(text, table_for_document(sizes, {}, Work(0), text)))

@@ -74,7 +74,7 @@ def table_for_document(
         minutes += int(times[-1] or 0) / 60
         missing += not times[-1]
     told = f"From nothing, all crates together: {minutes:.0f} processor minutes"
-    told += f", {missing} of them not measured yet." if missing else "."
+    told += f"; not measured yet: {missing} crates." if missing else "."
     return "\n".join([*lines, "", told])
 
 
