@@ -29,6 +29,6 @@ pub use encodings::{Ascii, Binary, Latin1, Ucs2, Utf8mb3, Utf8mb4, Utf16, Utf32}
 pub use front::next_char;
 pub use laws::{bytes_law, chars_law, set_names_law, utf8_law, wider_law};
 pub use names::{bin_of, charset_by_name, charset_name, is_unicode, same_set};
-pub use put::{PutChar, has_char, put_char};
+pub use put::{PutChar, byte_of, has_char, put_char};
 pub use spelling::Spelling;
 pub use well_formed::is_well_formed;
