@@ -14,7 +14,7 @@ FitOrLost from to codes true =
 FitOrLost from to codes false = (code : ℕ) × (codes ≡ code ∷ []) × (fits from to code ≡ false)
 
 -- The first `count` characters of a text, in its first `len` bytes, were converted behind `old`.
-pub record IsTaken (from to : Charset) (text old new : List ℕ) (len count : ℕ) (fit : Bool) : Type 0 where
+pub record TakesFront (from to : Charset) (text old new : List ℕ) (len count : ℕ) (fit : Bool) : Type 0 where
   pub codes : List ℕ
   pub piece : List ℕ
   pub counted : count ≡ length codes
@@ -28,7 +28,7 @@ pub record IsTaken (from to : Charset) (text old new : List ℕ) (len count : �
 
 -- A step took this from the front of the text, or found no character there.
 abbrev pub Takes : Charset → Charset → List ℕ → List ℕ → List ℕ → Result Taken NoMemory → Type 0
-Takes from to text old new (Ok (Front count len fit)) = IsTaken from to text old new len count fit
+Takes from to text old new (Ok (Front count len fit)) = TakesFront from to text old new len count fit
 Takes from to text old new (Ok Nothing) = (chars from text ≡ []) × (new ≡ old)
 Takes from to text old new (Err lack) = ⊤
 
