@@ -19,7 +19,8 @@ pub fn char_count(set: Charset, text: &[u8]) -> u32
     }
 }
 
-/// The byte place where character `k` begins, counted from 0, or the text's length where there are no more than `k`.
+/// The byte place where character `k` begins, counted from 0, or the text's length where there are
+/// no more than `k`.
 pub fn char_start(set: Charset, text: &[u8], k: u32) -> usize
     requires well_formed { IsWellFormed set text.now }
     requires below_4_gib { length text.now < 2 ^ 32 }

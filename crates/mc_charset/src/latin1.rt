@@ -9,7 +9,8 @@ ghost use Rattle.std.specs.Prelude.{◌≡◌, ℕ, List, ◌∷◌, take, drop}
 use crate::char_at::CharAt;
 use crate::spelling::Spelling;
 
-/// The code points of the bytes 80 to 9F: Windows code page 1252, and the control characters at its five gaps.
+/// The code points of the bytes 80 to 9F: Windows code page 1252, and the control characters at its
+/// five gaps.
 const CODES_80_TO_9F: [u16; 32] = [
     0x20AC, 0x0081, 0x201A, 0x0192, 0x201E, 0x2026, 0x2020, 0x2021, 0x02C6, 0x2030, 0x0160, 0x2039,
     0x0152, 0x008D, 0x017D, 0x008F, 0x0090, 0x2018, 0x2019, 0x201C, 0x201D, 0x2022, 0x2013, 0x2014,

@@ -38,7 +38,8 @@ impl From<NoMemory> for PutChar {
 /// Appends the one spelling of a code point. `Unfit` exactly where the set lacks the code point;
 /// after an error the text is as it was.
 pub fn put_char(set: Charset, code: u32, out: &mut Text) -> Result<(), PutChar>
-    ensures ok { OnOk result (option_map (λ front. out.old ++ front) (spell set code) ≡ Some out.new) }
+    ensures ok { OnOk result (option_map (λ front. out.old ++ front) (spell set code)
+        ≡ Some out.new) }
     ensures unfit { (result ≡ Err PutChar.Unfit) ↔ (spell set code ≡ None) }
     ensures err { OnErr result (out.new ≡ out.old) }
 {

@@ -102,7 +102,8 @@ fn four(a: u8, b: u8, c: u8, d: u8) -> CharAt
     requires second { 0x80 ≤ b }
     requires third { 0x80 ≤ c }
     requires fourth { 0x80 ≤ d }
-    ensures { result ≡ CharAt.Char ((a - 0xF0) * 262144 + (b - 0x80) * 4096 + (c - 0x80) * 64 + (d - 0x80)) 4 }
+    ensures { result ≡ CharAt.Char ((a - 0xF0) * 262144 + (b - 0x80) * 4096 + (c - 0x80) * 64 +
+        (d - 0x80)) 4 }
 {
     CharAt::Char {
         code: u32::from(a - 0xF0) * 262144

@@ -1,5 +1,7 @@
 -- Conversion between character sets: MySQL 8.0 manual, 10.10 and 12.10.
-use Rattle.std.specs.Prelude.{◌≡◌, ℕ, ◌-◌, ◌%◌, ◌<◌, Bool, true, false, not, ◌&&◌, ◌||◌, List, [], ◌∷◌, ◌++◌, Option, Some, None, length, take, map, slice_index, nat_lt, unwrap_or, MatchBool, if◌then◌else◌}
+use Rattle.std.specs.Prelude.{◌≡◌, ℕ, ◌-◌, ◌%◌, ◌<◌, Bool, true, false, not, ◌&&◌, ◌||◌, List, []}
+use Rattle.std.specs.Prelude.{◌∷◌, ◌++◌, Option, Some, None, length, take, map, slice_index, nat_lt}
+use Rattle.std.specs.Prelude.{unwrap_or, MatchBool, if◌then◌else◌}
 use Rattle.std.specs.List.{flat_map}
 use Rattle.std.specs.Option.{is_some}
 use Rattle.mc_charset.specs.declared.charset.Charset.{Charset}
