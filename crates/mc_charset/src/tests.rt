@@ -286,6 +286,11 @@ fn names_its_sets(rt: HostRuntime) {
     assert_eq!(rt; charset_name(Charset::Utf16), "utf16");
     assert_eq!(rt; bin_of(Charset::Utf32), CollId(7));
     assert!(rt; is_unicode(Charset::Ucs2));
+    assert!(rt; same_set(Charset::Ucs2, Charset::Ucs2));
+}
+
+#[test]
+fn has_the_euro_sign(rt: HostRuntime) {
     assert!(rt; has_char(Charset::Latin1, 0x20AC));
     assert!(rt; is_well_formed(Charset::Utf8mb4, &[0xE2, 0x82, 0xAC]));
 }

@@ -1,5 +1,5 @@
 ghost use Rattle.mc_charset.specs.Chars.{IsWellFormed};
-ghost use Rattle.std.specs.Prelude.{◌≡◌, ◌<◌, ◌↔◌, IsTrue, EachIndex, slice_index};
+ghost use Rattle.std.specs.Prelude.{◌<◌, ◌↔◌, IsTrue, EachIndex, slice_index};
 
 use crate::char_at::CharAt;
 use crate::charset::Charset;
