@@ -1,5 +1,5 @@
 -- In UTF-8 each character has one byte that begins it.
-use Rattle.std.proofs.Common.{◌≡◌, ℕ, ◌+◌, ◌-◌, ◌/◌, ◌%◌, ◌<◌, ◌≤◌, ◌⊎◌, Bool, true, false, leb, ltb, cond, ◌&&◌, ◌||◌, List, [], ◌∷◌, ◌++◌, Option, Some, None, length, filter, refl, sym, ap, ◌∙◌, subst, arith, inl, inr, zero, suc}
+use Rattle.std.proofs.Common.{◌≡◌, ℕ, ◌+◌, ◌-◌, ◌/◌, ◌%◌, ◌<◌, ◌≤◌, ◌⊎◌, Bool, true, false, leb, ltb, cond, ◌&&◌, ◌||◌, List, [], ◌∷◌, ◌++◌, Some, length, filter, refl, sym, ap, ◌∙◌, subst, arith, inl, inr, suc}
 use Rattle.std.proofs.lemmas.Bool.Decides.{nat_tests}
 use Rattle.std.proofs.lemmas.List.{length-append}
 use Rattle.std.proofs.Math.Nat.{mod-lt, div-lt_iff_lt-mul}
@@ -8,9 +8,9 @@ use Rattle.mc_charset.specs.declared.charset.Charset.TheVariants.{Utf8mb3, Utf8m
 use Rattle.mc_charset.specs.CharStart.{begins_in_utf8}
 use Rattle.mc_charset.specs.Rows.{Range, Row, count, sequence, has_code, spelling_in}
 use Rattle.mc_charset.specs.Tables.{rows}
-use Rattle.mc_charset.specs.Chars.{spell, spell_all, chars, Spells, IsWellFormed}
+use Rattle.mc_charset.specs.Chars.{spell, chars, Spells, IsWellFormed}
 use Rattle.mc_charset.proofs.Rows.{are_filled, count_positive, and_parts, guard_cases, has_code_parts}
-use Rattle.mc_charset.proofs.Chars.{chars_spelled, well_formed_spelled, Spells_nil, Spells_split}
+use Rattle.mc_charset.proofs.Chars.{well_formed_spelled, Spells_nil, Spells_split}
 use Rattle.mc_charset.proofs.WellFormed.{longer}
 
 filter-append : (p : ℕ → Bool) (xs ys : List ℕ) → filter p (xs ++ ys) ≡ filter p xs ++ filter p ys

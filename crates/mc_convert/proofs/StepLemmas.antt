@@ -4,12 +4,12 @@ use Rattle.std.specs.Option.{option_map, option_or}
 use Rattle.std.specs.Prelude.{IfSome, MatchOption}
 use Rattle.std.proofs.lemmas.Bool.{cases_lt}
 use Rattle.std.proofs.lemmas.Grind.{common_steps}
-use Rattle.std.proofs.lemmas.List.{length-drop, drop-drop, length-append, take-append-drop}
+use Rattle.std.proofs.lemmas.List.{length-drop, drop-drop, take-append-drop}
 use Rattle.std.proofs.Math.Seq.{drop-append_seam}
 use Rattle.mc_charset.specs.declared.charset.Charset.{Charset}
 use Rattle.mc_charset.specs.Chars.{spell, spell_all, chars, Spells}
 use Rattle.mc_charset.specs.NextChar.{IsFirst}
-use Rattle.mc_convert.specs.Conversion.{fits, stand_in, AllFit, IsFirstUnfit}
+use Rattle.mc_convert.specs.Conversion.{fits, stand_in, IsFirstUnfit}
 use Rattle.mc_convert.specs.Plain.{IsPlain}
 use Rattle.mc_convert.specs.Steps.{FitOrLost, TakesFront, IsLostPlace}
 use Rattle.mc_convert.proofs.Classes.{rest_behind}

@@ -1,6 +1,6 @@
 -- One step of a conversion that goes over a text from its front.
 use Rattle.std.specs.Prelude.{◌≡◌, ◌<◌, ◌≤◌, ℕ, Bool, true, false, List, [], ◌∷◌, ◌++◌, Option}
-use Rattle.std.specs.Prelude.{Some, None, length, drop, map, slice_index, MatchOption, Result, Ok}
+use Rattle.std.specs.Prelude.{length, drop, map, slice_index, MatchOption, Result, Ok}
 use Rattle.std.specs.Prelude.{Err, ⊤}
 use Rattle.mc_charset.specs.declared.charset.Charset.{Charset}
 use Rattle.mc_charset.specs.Chars.{chars, Spells}

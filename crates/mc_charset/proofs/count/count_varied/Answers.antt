@@ -1,4 +1,4 @@
-use Rattle.std.proofs.Common.{sym, ◌∙◌}
+use Rattle.std.proofs.Common.{◌∙◌}
 use Rattle.mc_charset.proofs.Firsts.{count_utf8}
 use Rattle.mc_charset.proofs.count.count_varied.Goals as goal
 

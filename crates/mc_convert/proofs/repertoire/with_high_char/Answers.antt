@@ -1,4 +1,4 @@
-use Rattle.mc_convert.proofs.Classes.{joined_bmp, joined_max}
+use Rattle.mc_convert.proofs.Classes.{joined_max}
 use Rattle.mc_convert.proofs.repertoire.with_high_char.Goals as goal
 
 pub returns : goal.returns
