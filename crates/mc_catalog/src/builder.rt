@@ -214,7 +214,7 @@ impl CatalogBuilder {
     {
         match self.begin_table(alloc, number, name.as_slice()) {
             Ok(()) => {
-                self.last = Some(OpenTable::new(alloc, name, file));
+                self.last.insert(OpenTable::new(alloc, name, file));
                 Ok(())
             }
             Err(fault) => Err(fault),
@@ -325,10 +325,19 @@ impl CatalogBuilder {
         requires { self.last ≡ None }
         ensures { result ≡ catalog_of self }
     {
+        let CatalogBuilder {
+            collations,
+            earlier,
+            last,
+            connection,
+            table_lines,
+        } = self;
+        drop(last);
+        drop(table_lines);
         Catalog {
-            collations: self.collations.into_list(),
-            tables: self.earlier.into_list(),
-            connection: self.connection.unwrap_or(CollId(4)),
+            collations: collations.into_list(),
+            tables: earlier.into_list(),
+            connection: connection.unwrap_or(CollId(4)),
         }
     }
 }

@@ -102,7 +102,8 @@ impl<T: Titled> Named<T> {
     pub(crate) fn into_list(self) -> List<T>
         ensures { result ≡ self }
     {
-        let Named { members, names: _ } = self;
+        let Named { members, names } = self;
+        drop(names);
         members
     }
 }

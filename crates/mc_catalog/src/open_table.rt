@@ -69,7 +69,9 @@ impl OpenTable {
         ensures err { IfErr result (λ fault. IsCausedBy fault (first_of (column_tests collations.now name form self.old))) }
         ensures named { self.new.name ≡ self.old.name }
     {
-        match self.column_type(collations, name.as_slice(), &form) {
+        let ty = self.column_type(collations, name.as_slice(), &form);
+        drop(form);
+        match ty {
             Ok(ty) => {
                 self.columns.push(alloc, ColumnDecl { name, ty })?;
                 Ok(())

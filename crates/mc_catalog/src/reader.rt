@@ -22,7 +22,10 @@ pub fn read_catalog(alloc: Global, text: &[u8]) -> Result<Catalog, CatalogFault>
     let mut builder = CatalogBuilder::new(alloc)?;
     match read_all(&mut builder, alloc, text) {
         Ok(()) => Ok(builder.into_catalog()),
-        Err(fault) => Err(fault),
+        Err(fault) => {
+            drop(builder);
+            Err(fault)
+        }
     }
 }
 
