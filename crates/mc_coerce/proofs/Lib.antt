@@ -1,0 +1,9 @@
+pub mod SetTests
+pub mod PairTable
+pub mod Members
+pub mod Election
+pub mod Aggregates
+pub mod AnyOrder
+pub mod Repertoires
+pub mod StandardFacts
+pub mod Results

@@ -1,0 +1,76 @@
+ghost use Rattle.mc_coerce.specs.Aggregate.{aggregate, class_in_set, counted, outcome};
+ghost use Rattle.mc_coerce.specs.Demand.{decides};
+ghost use Rattle.mc_coerce.specs.Operand.{AreOperands, IsOperand};
+ghost use Rattle.mc_coerce.specs.Pair.{beats};
+ghost use Rattle.mc_coerce.specs.Sets.{bin_number_of};
+ghost use Rattle.mc_coerce.specs.declared.demand.Demand.TheVariants.{Beat, Share};
+ghost use Rattle.mc_coerce.specs.declared.operand.Agg.TheVariants.{Uses};
+ghost use Rattle.mc_coerce.specs.declared.operand.Operand.{Operand};
+ghost use Rattle.mc_coerce.specs.declared.operand.Purpose.{Purpose};
+ghost use Rattle.mc_coerce.specs.declared.operand.Purpose.TheVariants.{Text};
+ghost use Rattle.mc_convert.specs.Classes.{cap_of, rank};
+ghost use Rattle.mc_convert.specs.declared.repertoire.Repertoire.{Repertoire};
+ghost use Rattle.std.specs.List.{All, Any, Contains};
+ghost use Rattle.std.specs.List.Sorted.{IsPermutation};
+ghost use Rattle.std.specs.Prelude.{◌≡◌, ◌≤◌, ◌⊎◌, List, true};
+
+/// The laws of the pair table: an operand beats itself, and two operands beat each other only if
+/// they have one collation and one level.
+pub fn pair_law()
+    ensures itself { (a : Operand) → beats a a ≡ true }
+    ensures one_way { (a b : Operand) → beats a b ≡ true → beats b a ≡ true
+        → (a.collation ≡ b.collation) × (a.level ≡ b.level) }
+{}
+
+/// The order of the operands doesn't matter. Any operand that beats the others gives the answer,
+/// and so does, of a text and where none beats the others, any one that shares with them; two that
+/// do so agree.
+pub fn order_law()
+    ensures any_order { (list other : List Operand) (purpose : Purpose) → AreOperands list
+        → IsPermutation list other → aggregate list purpose ≡ aggregate other purpose }
+    ensures one_winner { (list : List Operand) (a b : Operand) → AreOperands list
+        → Contains (counted list) a → Contains (counted list) b
+        → decides Beat (counted list) a ≡ true → decides Beat (counted list) b ≡ true
+        → (a.charset ≡ b.charset) × (a.collation ≡ b.collation) × (a.level ≡ b.level) }
+    ensures one_set { (list : List Operand) (a b : Operand) → AreOperands list
+        → Contains (counted list) a → Contains (counted list) b
+        → decides Share (counted list) a ≡ true → decides Share (counted list) b ≡ true
+        → (a.charset ≡ b.charset) × (a.level ≡ b.level) }
+    ensures won { (list : List Operand) (a : Operand) → AreOperands list
+        → Contains (counted list) a → decides Beat (counted list) a ≡ true
+        → aggregate list Text ≡ Uses (outcome Beat (counted list) a) }
+    ensures shared { (list : List Operand) (a : Operand) → AreOperands list
+        → ((b : Operand) → Contains (counted list) b → decides Beat (counted list) b ≡ true → ⊥)
+        → Contains (counted list) a → decides Share (counted list) a ≡ true
+        → aggregate list Text ≡ Uses (outcome Share (counted list) a) }
+{}
+
+/// The repertoire of a result is the least class of its set that is at least each operand's, and
+/// no operand loses a character in the result's set.
+pub fn repertoire_law()
+    ensures of_set { (list : List Operand) (purpose : Purpose) (together : Operand)
+        → aggregate list purpose ≡ Uses together
+        → class_in_set together.charset together.repertoire ≡ together.repertoire }
+    ensures greatest { (list : List Operand) (purpose : Purpose) (together : Operand)
+        → aggregate list purpose ≡ Uses together
+        → All (λ a. rank a.repertoire ≤ rank together.repertoire) (counted list) }
+    ensures least { (list : List Operand) (purpose : Purpose) (together : Operand)
+        (class : Repertoire) → aggregate list purpose ≡ Uses together
+        → class_in_set together.charset class ≡ class
+        → All (λ a. rank a.repertoire ≤ rank class) (counted list)
+        → rank together.repertoire ≤ rank class }
+    ensures lossless { (list : List Operand) (purpose : Purpose) (together a : Operand)
+        → AreOperands list → aggregate list purpose ≡ Uses together → Contains (counted list) a
+        → (a.charset ≡ together.charset) ⊎ (rank a.repertoire ≤ rank (cap_of together.charset)) }
+{}
+
+/// A result is an operand again, of an operand's set and collation or of its set's binary one.
+pub fn result_law()
+    ensures operand { (list : List Operand) (purpose : Purpose) (together : Operand)
+        → AreOperands list → aggregate list purpose ≡ Uses together → IsOperand together }
+    ensures collation { (list : List Operand) (purpose : Purpose) (together : Operand)
+        → aggregate list purpose ≡ Uses together
+        → Any (λ a. (a.charset ≡ together.charset) × (a.collation ≡ together.collation))
+        (counted list)
+        ⊎ (together.collation.0 ≡ bin_number_of together.charset) }
+{}

@@ -1,0 +1,35 @@
+//! The choice of a character set and a collation for an operation on several texts: the pair table
+//! of coercibility, and the aggregate of a list of operands.
+//!
+//! An operand is a text's set, collation, level of coercibility and repertoire (`Operand`). Of two
+//! operands one may beat the other (`beats`); of a list, the one that beats all others decides
+//! (`aggregate`). `aggregate(&[column, literal], Purpose::Compare)` answers the collation of the
+//! comparison `column = literal`, or `Agg::Mix`: an illegal mix of collations.
+//!
+//! The levels and their order are those of the MySQL 8.0 manual, 10.8.4, the repertoires those of
+//! 10.2.1; the table for operands of different sets is this project's own.
+//!
+//! Modules in reading order: `operand`, `condition` (what operands keep to), `sets` (character sets
+//! beside each other), `pair` (two operands), `demand` (what decides for a list), `agreement` (the
+//! list), `laws`.
+#![tactic(auto)]
+
+mod agreement;
+mod condition;
+mod demand;
+mod laws;
+#[cfg(test)]
+mod list_rows;
+mod operand;
+mod pair;
+#[cfg(test)]
+mod pair_rows;
+mod sets;
+#[cfg(test)]
+mod tests;
+
+pub use agreement::aggregate;
+pub use condition::are_operands;
+pub use laws::{order_law, pair_law, repertoire_law, result_law};
+pub use operand::{Agg, Operand, Purpose};
+pub use pair::beats;

@@ -1,0 +1,114 @@
+use crate::list_rows::LISTS;
+use crate::pair_rows::PAIRS;
+use crate::{Agg, Operand, Purpose, aggregate, are_operands, beats};
+use mc_base::{List, NoMemory, hex_number, next_field};
+use mc_charset::{Charset, CollId, bin_of, charset_by_name};
+use mc_convert::Repertoire;
+use std::alloc::Global;
+
+/// The operand that begins a line of fields, and the rest: set, kind of collation, level, class.
+fn operand(line: &[u8]) -> Option<(Operand, &[u8])> {
+    let (set, line) = next_field(line)?;
+    let (kind, line) = next_field(line)?;
+    let (level, line) = next_field(line)?;
+    let (class, line) = next_field(line)?;
+    let charset = charset_by_name(set)?;
+    let operand = Operand {
+        charset,
+        collation: collation(charset, kind)?,
+        bin: kind == b"bin".as_slice(),
+        level: hex_number(level)? as u8,
+        repertoire: repertoire(class)?,
+    };
+    Some((operand, line))
+}
+
+/// The set's built-in collation, or one of two that a catalog may declare.
+fn collation(set: Charset, kind: &[u8]) -> Option<CollId> {
+    let number = bin_of(set).0;
+    match kind {
+        b"bin" => Some(CollId(number)),
+        b"ci" => Some(CollId(number.wrapping_add(9))),
+        b"cs" => Some(CollId(number.wrapping_add(17))),
+        _ => None,
+    }
+}
+
+fn repertoire(class: &[u8]) -> Option<Repertoire> {
+    match class {
+        b"ascii" => Some(Repertoire::Ascii),
+        b"latin1" => Some(Repertoire::Latin1),
+        b"bmp" => Some(Repertoire::Bmp),
+        b"unicode" => Some(Repertoire::Unicode),
+        b"bytes" => Some(Repertoire::Bytes),
+        _ => None,
+    }
+}
+
+/// The line behind a field `|`.
+fn behind_bar(line: &[u8]) -> Option<&[u8]> {
+    match next_field(line) {
+        Some((b"|", line)) => Some(line),
+        _ => None,
+    }
+}
+
+/// Whether the first operand of a row beats the second, and the second the first, as it says.
+fn beat_so(row: &[u8]) -> Option<bool> {
+    let (a, line) = operand(row)?;
+    let (b, line) = operand(behind_bar(line)?)?;
+    let (first, second) = match next_field(behind_bar(line)?)?.0 {
+        b"first" => (true, false),
+        b"second" => (false, true),
+        b"both" => (true, true),
+        b"neither" => (false, false),
+        _ => return None,
+    };
+    Some(beats(&a, &b) == first && beats(&b, &a) == second)
+}
+
+#[test]
+fn pairs_beat_as_worked_out(rt: HostRuntime) {
+    for row in &PAIRS {
+        assert!(rt; beat_so(row) == Some(true), "{row:?}");
+    }
+}
+
+/// The operands that the texts say; none where one says none.
+fn operands(alloc: Global, texts: &[&[u8]]) -> Result<List<Operand>, NoMemory> {
+    let mut list = List::new(alloc);
+    for text in texts {
+        let Some((operand, _)) = operand(text) else {
+            return Ok(List::new(alloc));
+        };
+        list.push(operand)?;
+    }
+    Ok(list)
+}
+
+/// Whether it is the answer that the field says.
+fn is_answer(agg: Agg, want: &[u8]) -> bool {
+    match agg {
+        Agg::Uses(together) => operand(want).map(|each| each.0) == Some(together),
+        Agg::Mix => want == b"mix".as_slice(),
+    }
+}
+
+/// Whether the operands have this together, to be compared and as a text.
+fn have(alloc: Global, texts: &[&[u8]], compare: &[u8], text: &[u8]) -> Result<bool, NoMemory> {
+    let list = operands(alloc, texts)?;
+    Ok(
+        list.len() > 2
+            && are_operands(list.as_slice())
+            && is_answer(aggregate(list.as_slice(), Purpose::Compare), compare)
+            && is_answer(aggregate(list.as_slice(), Purpose::Text), text),
+    )
+}
+
+#[test]
+fn lists_have_together_what_was_worked_out(rt: HostRuntime) {
+    for row in &LISTS {
+        let are = have(rt.alloc(), row.operands, row.compare, row.text);
+        assert!(rt; are.unwrap_or(false), "{}", row.why);
+    }
+}
