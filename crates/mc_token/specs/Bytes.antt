@@ -30,8 +30,20 @@ right_paren = 0x29
 abbrev pub star : ℕ
 star = 0x2A
 
+abbrev pub percent : ℕ
+percent = 0x25
+
+abbrev pub plus : ℕ
+plus = 0x2B
+
+abbrev pub comma : ℕ
+comma = 0x2C
+
 abbrev pub dash : ℕ
 dash = 0x2D
+
+abbrev pub dot : ℕ
+dot = 0x2E
 
 abbrev pub slash : ℕ
 slash = 0x2F
@@ -42,8 +54,26 @@ digit_zero = 0x30
 abbrev pub semicolon : ℕ
 semicolon = 0x3B
 
+abbrev pub less : ℕ
+less = 0x3C
+
+abbrev pub equals : ℕ
+equals = 0x3D
+
+abbrev pub greater : ℕ
+greater = 0x3E
+
 abbrev pub backslash : ℕ
 backslash = 0x5C
+
+abbrev pub underscore : ℕ
+underscore = 0x5F
+
+abbrev pub backquote : ℕ
+backquote = 0x60
+
+abbrev pub dollar : ℕ
+dollar = 0x24
 
 abbrev pub small_x : ℕ
 small_x = 0x78
@@ -58,11 +88,8 @@ is_letter_x byte = byte == 0x58 || byte == small_x
 
 -- A letter or `_`.
 abbrev pub begins_word : ℕ → Bool
-begins_word byte = is_ascii_alphabetic byte || byte == 0x5F
+begins_word byte = is_ascii_alphabetic byte || byte == underscore
 
 -- A letter, a digit, `_` or `$`.
 abbrev pub continues_word : ℕ → Bool
-continues_word byte = is_ascii_alphanumeric byte || byte == 0x5F || byte == 0x24
-
-abbrev pub equals : ℕ
-equals = 0x3D
+continues_word byte = is_ascii_alphanumeric byte || byte == underscore || byte == dollar

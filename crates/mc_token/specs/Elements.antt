@@ -18,6 +18,14 @@ is_dash_comment (second ∷ behind) = second == dash && (length behind == 0 || i
 abbrev pub is_block_comment : List ℕ → Bool
 is_block_comment behind = slice_index behind 0 == star && not (slice_index behind 1 == exclamation)
 
+-- A comment to the end of its line begins here.
+abbrev pub opens_line : ℕ → List ℕ → Bool
+opens_line first behind = first == number_sign || (first == dash && is_dash_comment behind)
+
+-- A comment up to `*/` begins here.
+abbrev pub opens_block : ℕ → List ℕ → Bool
+opens_block first behind = first == slash && is_block_comment behind
+
 -- Where the first `*/` ends, these bytes beginning at a place.
 unfoldable pub block_end : ℕ → List ℕ → Option ℕ
 block_end at [] = None
@@ -47,8 +55,8 @@ unfoldable pub element_of : ℕ → List ℕ → Element
 element_of first behind =
     if is_space first then single Space
     else (if first == semicolon then single Semicolon
-    else (if first == number_sign || (first == dash && is_dash_comment behind) then record { kind = Comment; len = 1 + line_len behind }
-    else (if first == slash && is_block_comment behind then closed Comment (block_end 1 (drop 1 behind)) behind
+    else (if opens_line first behind then record { kind = Comment; len = 1 + line_len behind }
+    else (if opens_block first behind then closed Comment (block_end 1 (drop 1 behind)) behind
     else (if first == single_quote || first == double_quote then closed Quoted (quote_end first 0 behind) behind
     else single Other))))
 

@@ -7,7 +7,7 @@ use Rattle.mc_token.specs.Hexadecimal.{bytes_of_digits}
 use Rattle.mc_token.specs.declared.lexeme.Lexeme.{Lexeme}
 use Rattle.mc_token.specs.declared.lexeme.Lexeme.TheVariants as lexeme
 use Rattle.mc_token.specs.declared.spelling.Shape.{Shape}
-use Rattle.mc_token.specs.declared.spelling.Shape.TheVariants.{Word, Str, National, HexString, HexNumber, Sym}
+use Rattle.mc_token.specs.declared.spelling.Shape.TheVariants.{Word, Name, Int, Str, National, HexString, HexNumber, Sym}
 
 -- What a backslash and the byte behind it stand for. Before `%` and `_` the backslash stays.
 abbrev pub escaped : ℕ → List ℕ
@@ -41,6 +41,8 @@ inside first bytes = slice_range bytes first (length bytes - 1)
 -- The lexeme that these bytes spell.
 unfoldable pub lexeme_of : Shape → List ℕ → Lexeme
 lexeme_of Word bytes = lexeme.Word (map to_ascii_lowercase bytes)
+lexeme_of Name bytes = lexeme.Name (map to_ascii_lowercase (inside 1 bytes))
+lexeme_of (Int number) bytes = lexeme.Int number
 lexeme_of Str bytes = lexeme.Str (content (slice_index bytes 0) (inside 1 bytes))
 lexeme_of National bytes = lexeme.National (content single_quote (inside 2 bytes))
 lexeme_of HexString bytes = lexeme.Hex (bytes_of_digits (inside 2 bytes))

@@ -5,9 +5,12 @@ pub mod Strings
 pub mod Cut
 pub mod Statements
 pub mod Hexadecimal
-pub mod Spellings
+pub mod Numbers
+pub mod Marks
 pub mod Spelled
+pub mod Spellings
 pub mod Lexemes
 pub mod Tokens
+pub mod Pieces
 pub mod Cover
 pub mod TokenLaws

@@ -7,12 +7,15 @@ ghost use Rattle.mc_token.specs.Elements.{
   quote_end,
   is_dash_comment,
   is_block_comment,
+  opens_line,
+  opens_block,
   single,
   closed,
   element_of,
   elements,
 };
 ghost use Rattle.mc_token.specs.Statements.{is_end};
+ghost use Rattle.mc_token.specs.Tokens.{blank_len};
 
 /// What an element of a script is.
 #[derive(Clone, Copy, Debug, PartialEq, Eq)]
@@ -62,12 +65,12 @@ fn element_of(first: u8, behind: &[u8]) -> Element
         single(Kind::Space)
     } else if first == b';' {
         single(Kind::Semicolon)
-    } else if first == b'#' || (first == b'-' && is_dash_comment(behind)) {
+    } else if opens_line(first, behind) {
         Element {
             kind: Kind::Comment,
             len: 1 + line_len(behind),
         }
-    } else if first == b'/' && is_block_comment(behind) {
+    } else if opens_block(first, behind) {
         closed(Kind::Comment, block_end(behind), behind)
     } else if first == b'\'' || first == b'"' {
         closed(Kind::Quoted, quote_end(first, behind), behind)
@@ -76,8 +79,43 @@ fn element_of(first: u8, behind: &[u8]) -> Element
     }
 }
 
+/// How many bytes the space or the closed comment has that this byte begins, if it begins one.
+#[tactic(auto, using(crate::proofs::Blanks::blank_steps))]
+pub fn blank_len(first: u8, behind: &[u8]) -> Option<usize>
+    ensures value { result ≡ blank_len first behind.now }
+    ensures not_empty { IfSome result (λ len. 0 < len) }
+    ensures within { IfSome result (λ len. len ≤ 1 + length behind.now) }
+{
+    if is_space(first) {
+        Some(1)
+    } else if opens_line(first, behind) {
+        Some(1 + line_len(behind))
+    } else if opens_block(first, behind) {
+        match block_end(behind) {
+            Some(end) => Some(1 + end),
+            None => None,
+        }
+    } else {
+        None
+    }
+}
+
+/// Whether a comment to the end of the line begins here.
+fn opens_line(first: u8, behind: &[u8]) -> bool
+    ensures { result ≡ opens_line first behind.now }
+{
+    first == b'#' || (first == b'-' && is_dash_comment(behind))
+}
+
+/// Whether a comment up to `*/` begins here.
+fn opens_block(first: u8, behind: &[u8]) -> bool
+    ensures { result ≡ opens_block first behind.now }
+{
+    first == b'/' && is_block_comment(behind)
+}
+
 /// Whether the byte is a space, TAB, LF, VT, FF or CR.
-pub fn is_space(byte: u8) -> bool
+fn is_space(byte: u8) -> bool
     ensures { result ≡ is_space byte }
 {
     byte == b' ' || (b'\t' <= byte && byte <= b'\r')

@@ -1,3 +1,5 @@
+use Rattle.std.proofs.Common.{drop, arith}
+use Rattle.std.proofs.lemmas.List.{length-drop}
 use Rattle.mc_token.proofs.TokenLaws.{tokens-order, tokens-texts}
 use Rattle.mc_token.proofs.HexDigits.{bytes-digits}
 use Rattle.mc_token.proofs.Cover.{tokens_cover, cover_is_tokens}
@@ -10,8 +12,13 @@ pub returns-clause-texts : goal.returns-clause-texts
 returns-clause-texts c = tokens-texts
 
 pub returns-clause-cover : goal.returns-clause-cover
-returns-clause-cover c =
-    λ place bytes tokens. (tokens_cover place bytes tokens, cover_is_tokens place bytes tokens)
+returns-clause-cover c = λ script statement tokens begins ends.
+    let bytes = drop statement.start script in
+    let count = length-drop statement.start script in (
+      tokens_cover statement.end statement.start bytes tokens begins
+          (omega (arith, begins, ends, count)),
+      cover_is_tokens statement.end statement.start bytes tokens,
+    )
 
 pub returns-clause-digits : goal.returns-clause-digits
 returns-clause-digits c = bytes-digits
