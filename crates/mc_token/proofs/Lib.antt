@@ -22,3 +22,4 @@ pub mod TokenLawsText
 pub mod TokenLawsCuts
 pub mod TokenLaws
 pub mod Cover
+pub mod Keywords

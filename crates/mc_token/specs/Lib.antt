@@ -14,3 +14,5 @@ pub mod Tokens
 pub mod Pieces
 pub mod Cover
 pub mod TokenLaws
+pub mod Keywords
+pub mod Kinds

@@ -4,6 +4,8 @@
 mod cutting;
 mod element;
 mod hexadecimal;
+mod keyword;
+mod kind;
 mod laws;
 mod lexeme;
 mod mark;
@@ -12,11 +14,11 @@ mod piece;
 mod reading;
 mod spelling;
 mod statement;
-#[cfg(test)]
-mod tests;
 mod token;
 
 pub use cutting::cut_law;
+pub use keyword::{Keyword, keyword_named};
+pub use kind::{TokenKind, kind_of};
 pub use laws::token_laws;
 pub use lexeme::{LexFault, Lexeme, Symbol, Token};
 pub use statement::next_statement;
