@@ -23,3 +23,5 @@ pub mod TokenLawsCuts
 pub mod TokenLaws
 pub mod Cover
 pub mod Keywords
+pub mod Parts
+pub mod Contents

@@ -4,12 +4,14 @@ pub mod Comments
 pub mod Strings
 pub mod Cut
 pub mod Statements
+pub mod Parts
 pub mod Hexadecimal
 pub mod Numbers
 pub mod Marks
 pub mod Spelled
 pub mod Spellings
 pub mod Lexemes
+pub mod Contents
 pub mod Tokens
 pub mod Pieces
 pub mod Cover

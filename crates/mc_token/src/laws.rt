@@ -2,8 +2,11 @@ ghost use Rattle.std.specs.Prelude.{◌≡◌, ◌↔◌, ℕ, ◌≤◌, List, 
 ghost use Rattle.std.specs.Str.{IsUtf8};
 ghost use Rattle.mc_base.specs.declared.span.Span.{Span};
 ghost use Rattle.mc_token.specs.Tokens.{all_tokens, tokens_of};
+ghost use Rattle.mc_token.specs.Contents.{Says};
 ghost use Rattle.mc_token.specs.Cover.{Cover};
 ghost use Rattle.mc_token.specs.Hexadecimal.{bytes_of_digits, values_of, two_digits};
+ghost use Rattle.mc_token.specs.Lexemes.{content};
+ghost use Rattle.mc_token.specs.Strings.{IsContent, IsQuote};
 ghost use Rattle.mc_token.specs.TokenLaws.{AreInOrder, HaveUtf8Texts};
 ghost use Rattle.mc_token.specs.declared.lexeme.Token.{Token};
 
@@ -11,7 +14,8 @@ ghost use Rattle.mc_token.specs.declared.lexeme.Token.{Token};
 /// of it but spaces and comments, each token spelled as its kind says before all that the script has
 /// behind it; they stand inside the statement, one behind the other; if the script is UTF-8, so is the text of each string, its escapes taken away; and the
 /// bytes of a hexadecimal literal, two digits each, have its digits, a 0 before an odd number of
-/// them.
+/// them; the text of a string is what the bytes between its quotes stand for: plain bytes for
+/// themselves, doubled quotes for one, escapes for theirs.
 pub fn token_laws()
     ensures cover { (script : List ℕ) (statement : Span) (tokens : List Token)
         → statement.start ≤ statement.end → statement.end ≤ length script
@@ -22,5 +26,8 @@ pub fn token_laws()
         → tokens_of script statement ≡ Ok tokens → AreInOrder statement.start statement.end tokens }
     ensures texts { (script : List ℕ) (statement : Span) (tokens : List Token)
         → IsUtf8 script → tokens_of script statement ≡ Ok tokens → HaveUtf8Texts tokens }
+    ensures content { (quote : ℕ) (inside text : List ℕ)
+        → IsQuote quote → IsContent quote inside
+        → Says quote inside text ↔ text ≡ content quote inside }
     ensures digits { (digits : List ℕ) → two_digits (bytes_of_digits digits) ≡ values_of digits }
 {}

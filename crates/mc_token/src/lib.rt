@@ -16,7 +16,7 @@ mod spelling;
 mod statement;
 mod token;
 
-pub use cutting::cut_law;
+pub use cutting::{cut_law, statements_law};
 pub use keyword::{Keyword, keyword_named};
 pub use kind::{TokenKind, kind_of};
 pub use laws::token_laws;

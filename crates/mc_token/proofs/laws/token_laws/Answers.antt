@@ -3,6 +3,7 @@ use Rattle.std.proofs.lemmas.List.{length-drop}
 use Rattle.mc_token.proofs.TokenLaws.{tokens-order, tokens-texts}
 use Rattle.mc_token.proofs.HexDigits.{bytes-digits}
 use Rattle.mc_token.proofs.Cover.{tokens_cover, cover_is_tokens}
+use Rattle.mc_token.proofs.Contents.{says_is, is_said}
 use Rattle.mc_token.proofs.laws.token_laws.Goals as goal
 
 pub returns-clause-in_order : goal.returns-clause-in_order
@@ -22,3 +23,9 @@ returns-clause-cover c = λ script statement tokens begins ends.
 
 pub returns-clause-digits : goal.returns-clause-digits
 returns-clause-digits c = bytes-digits
+
+pub returns-clause-content : goal.returns-clause-content
+returns-clause-content c = λ quote inside text is_quote is_content. (
+  says_is quote inside text is_quote,
+  is_said quote inside text is_quote is_content,
+)
