@@ -22,6 +22,7 @@ pub mod TokenLawsText
 pub mod TokenLawsCuts
 pub mod TokenLaws
 pub mod Cover
+pub mod Stops
 pub mod Keywords
 pub mod Parts
 pub mod Contents

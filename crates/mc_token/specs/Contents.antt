@@ -5,7 +5,7 @@ use Rattle.mc_token.specs.Bytes.{backslash}
 use Rattle.mc_token.specs.Lexemes.{escaped}
 use Rattle.mc_token.specs.Strings.{IsPlain}
 
--- A plain byte stands for itself, a doubled quote for one, and a backslash makes an escape of a byte.
+-- A plain byte stands for itself, a doubled quote for one, and a backslash makes a byte an escape.
 abbrev pub StandsFor : (quote : ℕ) → (spelled says : List ℕ) → Type 0
 StandsFor quote spelled says =
     ((byte : ℕ) × IsPlain quote byte × (spelled ≡ byte ∷ []) × (says ≡ byte ∷ []))

@@ -1,5 +1,5 @@
 -- Tokens as spans that cover all bytes but spaces and comments: MySQL 8.0 manual, 9.1, 9.2 and 9.7.
-use Rattle.std.specs.Prelude.{◌≡◌, ℕ, ◌+◌, ◌≤◌, true, List, [], ◌∷◌, ◌++◌, length}
+use Rattle.std.specs.Prelude.{◌≡◌, ℕ, ◌+◌, ◌<◌, ◌≤◌, true, List, [], ◌∷◌, ◌++◌, length}
 use Rattle.mc_token.specs.Comments.{OpensLine}
 use Rattle.mc_token.specs.Cut.{Takes}
 use Rattle.mc_token.specs.Spelled.{IsSpelled}
@@ -33,10 +33,24 @@ pub record Begins (at : ℕ) (bytes : List ℕ) (token : Token) (behind : List �
   pub end_is : token.span.end ≡ token.span.start + length spelled
   pub is_token : IsToken spelled behind token.kind
 
--- The tokens cover the script up to a place but for blanks, from the place on where these bytes begin.
-abbrev pub Cover : (end at : ℕ) → List ℕ → List Token → Type 0
-Cover end at bytes [] =
-    (blanks : List Element) × (behind : List ℕ) × AreBlanks blanks at bytes end behind
-Cover end at bytes (token ∷ tokens) =
-    (behind : List ℕ) × Begins at bytes token behind × (token.span.end ≤ end)
-    × Cover end token.span.end behind tokens
+-- The tokens cover the script but for blanks, from the place where these bytes begin up to another,
+-- where those begin.
+abbrev pub Cover : (at : ℕ) → List ℕ → List Token → (to : ℕ) → List ℕ → Type 0
+Cover at bytes [] to behind = (blanks : List Element) × AreBlanks blanks at bytes to behind
+Cover at bytes (token ∷ tokens) to behind =
+    (left : List ℕ) × Begins at bytes token left × Cover token.span.end left tokens to behind
+
+-- The tokens cover all of a statement that ends at a place.
+abbrev pub AreTokens : (end at : ℕ) → List ℕ → List Token → Type 0
+AreTokens end at bytes tokens = (behind : List ℕ) × Cover at bytes tokens end behind
+
+-- The tokens cover it up to a byte where neither a blank nor a token begins that ends within it.
+pub record StopsAt (end at : ℕ) (bytes : List ℕ) (place : ℕ) : Type 0 where
+  pub tokens : List Token
+  pub behind : List ℕ
+  pub covered : Cover at bytes tokens place behind
+  pub within : place < end
+  pub no_blank : (blank : Element) (left : List ℕ) → is_blank blank.kind ≡ true
+      → Takes behind blank left → place + blank.len ≤ end → ⊥
+  pub no_token : (spelled left : List ℕ) (says : Lexeme) → behind ≡ spelled ++ left
+      → IsToken spelled left says → place + length spelled ≤ end → ⊥

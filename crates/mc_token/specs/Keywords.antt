@@ -1,9 +1,18 @@
 -- The words that the grammar asks for by name, and what a parser asks of a token: MySQL 8.0 manual,
 -- 9.3.
-use Rattle.std.specs.Prelude.{◌≡◌, ◌≢◌, ℕ, ◌==◌, Bool, true, false, List, [], ◌∷◌, Option, codes, length, find, if◌then◌else◌}
+use Rattle.std.specs.Prelude.{◌≡◌, ◌≢◌, ℕ, ◌==◌, Bool, true, false, List, [], ◌∷◌, Option, codes}
+use Rattle.std.specs.Prelude.{length, find, if◌then◌else◌}
 use Rattle.std.specs.Str.{bytes_eq}
 use Rattle.mc_token.specs.declared.keyword.Keyword.{Keyword}
-use Rattle.mc_token.specs.declared.keyword.Keyword.TheVariants.{Select, Distinct, From, Where, Group, By, Order, Asc, Desc, Limit, As, And, Or, Xor, Not, Is, Null, Like, In, Between, Collate, Div, Mod, Explain, Convert, Using, True, False, Character, Set, Char, Binary, Both, Leading, Trailing, For, Offset, Escape, Cast, Count, Trim, Substring, WeightString}
+use Rattle.mc_token.specs.declared.keyword.Keyword.TheVariants.{Select, Distinct, From, Where}
+use Rattle.mc_token.specs.declared.keyword.Keyword.TheVariants.{Group, By, Order, Asc, Desc, Limit}
+use Rattle.mc_token.specs.declared.keyword.Keyword.TheVariants.{As, And, Or, Xor, Not, Is, Null}
+use Rattle.mc_token.specs.declared.keyword.Keyword.TheVariants.{Like, In, Between, Collate, Div}
+use Rattle.mc_token.specs.declared.keyword.Keyword.TheVariants.{Mod, Explain, Convert, Using, True}
+use Rattle.mc_token.specs.declared.keyword.Keyword.TheVariants.{False, Character, Set, Char, Binary}
+use Rattle.mc_token.specs.declared.keyword.Keyword.TheVariants.{Both, Leading, Trailing, For}
+use Rattle.mc_token.specs.declared.keyword.Keyword.TheVariants.{Offset, Escape, Cast, Count, Trim}
+use Rattle.mc_token.specs.declared.keyword.Keyword.TheVariants.{Substring, WeightString}
 
 -- The spelling of a keyword, in lower case.
 abbrev pub keyword_text : Keyword → List ℕ

@@ -3,7 +3,8 @@ use Rattle.std.specs.Prelude.{◌≡◌, ◌≢◌}
 use Rattle.mc_token.specs.Keywords.{keyword_text}
 use Rattle.mc_token.specs.declared.keyword.Keyword.{Keyword as AKeyword}
 use Rattle.mc_token.specs.declared.kind.TokenKind.{TokenKind}
-use Rattle.mc_token.specs.declared.kind.TokenKind.TheVariants.{Keyword, Word, Name, Int, Str, National, Hex, Sym}
+use Rattle.mc_token.specs.declared.kind.TokenKind.TheVariants.{Keyword, Word, Name, Int, Str}
+use Rattle.mc_token.specs.declared.kind.TokenKind.TheVariants.{National, Hex, Sym}
 use Rattle.mc_token.specs.declared.lexeme.Lexeme.{Lexeme}
 use Rattle.mc_token.specs.declared.lexeme.Lexeme.TheVariants as lexeme
 

@@ -1,9 +1,13 @@
 -- The marks: their spellings, and the longest one that begins some bytes. MySQL 8.0 manual, 9.2,
 -- 12.4.2 and 12.6.1.
-use Rattle.std.specs.Prelude.{◌≡◌, ℕ, ◌==◌, ◌≤◌, List, ◌++◌, Option, Some, None, codes, length, drop, slice_index, if◌then◌else◌}
-use Rattle.mc_token.specs.Bytes.{exclamation, percent, left_paren, right_paren, star, plus, comma, dash, dot, less, equals, greater}
+use Rattle.std.specs.Prelude.{◌≡◌, ℕ, ◌==◌, ◌≤◌, List, ◌++◌, Option, Some, None, codes, length}
+use Rattle.std.specs.Prelude.{drop, slice_index, if◌then◌else◌}
+use Rattle.mc_token.specs.Bytes.{exclamation, percent, left_paren, right_paren, star, plus, comma}
+use Rattle.mc_token.specs.Bytes.{dash, dot, less, equals, greater}
 use Rattle.mc_token.specs.declared.lexeme.Symbol.{Symbol}
-use Rattle.mc_token.specs.declared.lexeme.Symbol.TheVariants.{LeftParen, RightParen, Comma, Dot, Star, Plus, Minus, Percent, Eq, Ne, NeBang, Lt, Le, Gt, Ge, NullEq}
+use Rattle.mc_token.specs.declared.lexeme.Symbol.TheVariants.{LeftParen, RightParen, Comma, Dot}
+use Rattle.mc_token.specs.declared.lexeme.Symbol.TheVariants.{Star, Plus, Minus, Percent, Eq, Ne}
+use Rattle.mc_token.specs.declared.lexeme.Symbol.TheVariants.{NeBang, Lt, Le, Gt, Ge, NullEq}
 
 -- The spelling of a mark.
 abbrev pub mark_text : Symbol → List ℕ

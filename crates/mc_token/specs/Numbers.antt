@@ -1,5 +1,6 @@
 -- Whole numbers: MySQL 8.0 manual, 9.1.2.
-use Rattle.std.specs.Prelude.{ℕ, ℤ, pos, not, nat_le, List, Option, Some, None, unwrap_or, length, position, if◌then◌else◌}
+use Rattle.std.specs.Prelude.{ℕ, ℤ, pos, not, nat_le, List, Option, Some, None, unwrap_or, length}
+use Rattle.std.specs.Prelude.{position, if◌then◌else◌}
 use Rattle.std.specs.Char.{is_ascii_digit}
 use Rattle.std.specs.Str.Parse.{digits_value}
 
@@ -14,4 +15,5 @@ decimals_len bytes = unwrap_or (position (λ byte. not (is_ascii_digit byte)) by
 -- The number that digits write, where it isn't too great.
 abbrev pub int_of : List ℕ → Option ℤ
 int_of digits =
-    if nat_le (digits_value 10 digits) greatest_int then Some (pos (digits_value 10 digits)) else None
+    if nat_le (digits_value 10 digits) greatest_int then Some (pos (digits_value 10 digits))
+    else None

@@ -14,8 +14,8 @@ len_of (element ∷ elements) = element.len + len_of elements
 abbrev pub parts_of : List Element → List (List Element)
 parts_of elements = slice_split (λ element. is_end element.kind) elements
 
--- The statement of a part that begins at a place: from its first element of content to its end. A part
--- without content has none.
+-- The statement of a part that begins at a place: from its first element of content to its end. A
+-- part without content has none.
 abbrev pub statement_of : ℕ → List Element → List Span
 statement_of at part =
     if list_any (λ element. is_content element.kind) part
@@ -25,7 +25,8 @@ statement_of at part =
     } ∷ []
     else []
 
--- The statements of parts, the first of which begins at a place. Behind each is a semicolon, of one byte.
+-- The statements of parts, the first of which begins at a place. Behind each is a semicolon, of one
+-- byte.
 abbrev pub statements_of : ℕ → List (List Element) → List Span
 statements_of at [] = []
 statements_of at (part ∷ parts) = statement_of at part ++ statements_of (at + len_of part + 1) parts

@@ -1,14 +1,17 @@
 -- How each kind of token is spelled: MySQL 8.0 manual, 9.1.1, 9.1.4, 9.2 and 10.3.7.
-use Rattle.std.specs.Prelude.{◌≡◌, ◌≢◌, ℕ, ℤ, ◌%◌, ◌≤◌, Bool, true, false, ◌||◌, List, [], ◌∷◌, ◌++◌, Some, length}
+use Rattle.std.specs.Prelude.{◌≡◌, ◌≢◌, ℕ, ℤ, ◌%◌, ◌≤◌, Bool, true, false, ◌||◌, List, [], ◌∷◌}
+use Rattle.std.specs.Prelude.{◌++◌, Some, length}
 use Rattle.std.specs.Char.{is_ascii_digit, is_ascii_hexdigit}
 use Rattle.std.specs.List.{AllByRecursion}
-use Rattle.mc_token.specs.Bytes.{begins_word, continues_word, is_letter_n, is_letter_x, small_x, digit_zero, single_quote, backquote}
+use Rattle.mc_token.specs.Bytes.{begins_word, continues_word, is_letter_n, is_letter_x, small_x}
+use Rattle.mc_token.specs.Bytes.{digit_zero, single_quote, backquote}
 use Rattle.mc_token.specs.Comments.{EndOr}
 use Rattle.mc_token.specs.Marks.{IsMark}
 use Rattle.mc_token.specs.Numbers.{int_of}
 use Rattle.mc_token.specs.Strings.{IsString}
 use Rattle.mc_token.specs.declared.spelling.Shape.{Shape}
-use Rattle.mc_token.specs.declared.spelling.Shape.TheVariants.{Word, Name, Int, Str, National, HexString, HexNumber, Sym}
+use Rattle.mc_token.specs.declared.spelling.Shape.TheVariants.{Word, Name, Int, Str, National}
+use Rattle.mc_token.specs.declared.spelling.Shape.TheVariants.{HexString, HexNumber, Sym}
 
 -- Each byte is such a one.
 abbrev pub AreAll : (ℕ → Bool) → List ℕ → Type 0
@@ -24,7 +27,7 @@ OpensPrefixed bytes =
     (letter : ℕ) × (rest : List ℕ) × (bytes ≡ letter ∷ single_quote ∷ rest)
     × ((is_letter_n letter || is_letter_x letter) ≡ true)
 
--- A word: a letter or `_` that opens no literal, and all the letters, digits, `_` and `$` behind it.
+-- A word: a letter or `_` that opens no literal, and all letters, digits, `_` and `$` behind it.
 abbrev pub IsWord : (taken behind : List ℕ) → Type 0
 IsWord taken behind =
     (first : ℕ) × (others : List ℕ) × (taken ≡ first ∷ others) × (begins_word first ≡ true)

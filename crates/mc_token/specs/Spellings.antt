@@ -1,8 +1,11 @@
 -- The spellings of the tokens, the longest one at a place: MySQL 8.0 manual, 9.1.1, 9.1.4, 9.2 and
 -- 10.3.7.
-use Rattle.std.specs.Prelude.{ℕ, ◌+◌, ◌%◌, Bool, ◌||◌, ◌&&◌, not, ◌==◌, nat_lt, nat_le, List, ◌∷◌, Option, Some, None, unwrap_or, length, take, drop, slice_index, position, if◌then◌else◌, option_map}
+use Rattle.std.specs.Prelude.{ℕ, ◌+◌, ◌%◌, Bool, ◌||◌, ◌&&◌, not, ◌==◌, nat_lt, nat_le, List, ◌∷◌}
+use Rattle.std.specs.Prelude.{Option, Some, None, unwrap_or, length, take, drop, slice_index}
+use Rattle.std.specs.Prelude.{position, if◌then◌else◌, option_map}
 use Rattle.std.specs.Char.{is_ascii_digit}
-use Rattle.mc_token.specs.Bytes.{begins_word, continues_word, is_letter_n, is_letter_x, small_x, digit_zero, single_quote, double_quote, backquote}
+use Rattle.mc_token.specs.Bytes.{begins_word, continues_word, is_letter_n, is_letter_x, small_x}
+use Rattle.mc_token.specs.Bytes.{digit_zero, single_quote, double_quote, backquote}
 use Rattle.mc_token.specs.Elements.{quote_end}
 use Rattle.mc_token.specs.Hexadecimal.{digits_len}
 use Rattle.mc_token.specs.Marks.{mark_text, mark_of}
@@ -10,7 +13,8 @@ use Rattle.mc_token.specs.Numbers.{decimals_len, int_of}
 use Rattle.mc_token.specs.Spelled.{name_limit}
 use Rattle.mc_token.specs.declared.spelling.Spelling.{Spelling}
 use Rattle.mc_token.specs.declared.spelling.Shape.{Shape}
-use Rattle.mc_token.specs.declared.spelling.Shape.TheVariants.{Word, Name, Int, Str, National, HexString, HexNumber, Sym}
+use Rattle.mc_token.specs.declared.spelling.Shape.TheVariants.{Word, Name, Int, Str, National}
+use Rattle.mc_token.specs.declared.spelling.Shape.TheVariants.{HexString, HexNumber, Sym}
 
 -- The fewest bytes that spell such a token.
 abbrev pub least_len : Shape → ℕ
@@ -37,7 +41,7 @@ abbrev pub string_spelling : Shape → ℕ → Option ℕ → Option Spelling
 string_spelling shape before (Some end) = Some (record { shape = shape; len = before + end })
 string_spelling shape before None = None
 
--- The spelling of `X'..'`, by the bytes behind its first quote: an even number of digits and a quote.
+-- The spelling of `X'..'`, by the bytes behind its first quote: an even number of digits, a quote.
 abbrev pub hex_string_spelling : List ℕ → Option Spelling
 hex_string_spelling bytes =
     if digits_len bytes % 2 == 0 && slice_index bytes (digits_len bytes) == single_quote

@@ -1,5 +1,7 @@
 -- The tokens of a statement, or its first fault.
-use Rattle.std.specs.Prelude.{◌≡◌, ℕ, ◌+◌, ◌-◌, Bool, true, false, List, [], ◌∷◌, ◌++◌, Option, Some, None, Result, Ok, Err, zero, suc, take, drop, length, nat_le, if◌then◌else◌}
+use Rattle.std.specs.Prelude.{◌≡◌, ℕ, ◌+◌, ◌-◌, Bool, true, false, List, [], ◌∷◌, ◌++◌, Option}
+use Rattle.std.specs.Prelude.{Some, None, Result, Ok, Err, zero, suc, take, drop, length, nat_le}
+use Rattle.std.specs.Prelude.{if◌then◌else◌}
 use Rattle.mc_base.specs.declared.span.Span.{Span}
 use Rattle.mc_token.specs.Elements.{element_of}
 use Rattle.mc_token.specs.Spellings.{spelling_of}
@@ -58,7 +60,8 @@ tokens_behind end zero at (byte ∷ behind) =
     if nat_le end at then Ok []
     else elim (piece_of (end - at) byte behind) [
       | Blank len ↦ tokens_behind end (len - 1) (at + 1) behind
-      | Begun spelling ↦ with_front (token_of at spelling (byte ∷ behind) ∷ []) (tokens_behind end (spelling.len - 1) (at + 1) behind)
+      | Begun spelling ↦ with_front (token_of at spelling (byte ∷ behind) ∷ [])
+          (tokens_behind end (spelling.len - 1) (at + 1) behind)
       | Nothing ↦ Err (NoToken at)
     ]
 

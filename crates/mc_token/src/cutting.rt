@@ -13,8 +13,8 @@ pub fn cut_law()
         → Cut script parts ↔ parts ≡ elements script }
 {}
 
-/// The law of the statements of a script from a place on: its elements split at the semicolons, each
-/// part from its first element of content on, and the parts without content dropped.
+/// The law of the statements of a script from a place on: its elements split at the semicolons,
+/// each part from its first element of content on, and the parts without content dropped.
 #[tactic(auto, using(crate::proofs::Parts::statements_are))]
 pub fn statements_law()
     ensures parts { (script : List ℕ) (from : ℕ)

@@ -1,4 +1,21 @@
-ghost use Rattle.std.specs.Prelude.{◌≡◌, ◌∷◌, ◌<◌, ◌≤◌, ◌+◌, ◌==◌, ◌&&◌, ◌||◌, false, not, nat_lt, drop, length, slice_index, IfSome, IsTrue};
+ghost use Rattle.std.specs.Prelude.{
+  ◌≡◌,
+  ◌∷◌,
+  ◌<◌,
+  ◌≤◌,
+  ◌+◌,
+  ◌==◌,
+  ◌&&◌,
+  ◌||◌,
+  false,
+  not,
+  nat_lt,
+  drop,
+  length,
+  slice_index,
+  IfSome,
+  IsTrue,
+};
 ghost use Rattle.std.specs.List.{position_or_len};
 ghost use Rattle.mc_token.specs.Bytes.{is_space, star, slash, backslash};
 ghost use Rattle.mc_token.specs.Elements.{
@@ -45,7 +62,8 @@ pub struct Element {
 #[tactic(auto, using(crate::proofs::Elements::elements_steps))]
 pub fn element_at(script: &[u8], at: usize) -> Element
     requires { at < length script.now }
-    ensures cut { elements (drop at script.now) ≡ result ∷ elements (drop (at + result.len) script.now) }
+    ensures cut { elements (drop at script.now)
+        ≡ result ∷ elements (drop (at + result.len) script.now) }
     ensures not_empty { 0 < result.len }
     ensures one_byte { IsTrue (is_end result.kind) → result.len ≡ 1 }
     ensures within { at + result.len ≤ length script.now }
@@ -187,7 +205,8 @@ fn block_end(behind: &[u8]) -> Option<usize>
 /// Whether `*/` begins at this place.
 fn ends_block(bytes: &[u8], at: usize) -> bool
     requires { at < length bytes.now }
-    ensures value { result ≡ (slice_index bytes.now at == star && slice_index bytes.now (at + 1) == slash) }
+    ensures value { result
+        ≡ (slice_index bytes.now at == star && slice_index bytes.now (at + 1) == slash) }
     ensures within { IsTrue result → at + 1 < length bytes.now }
 {
     bytes[at] == b'*' && at + 1 < bytes.len() && bytes[at + 1] == b'/'
@@ -236,8 +255,8 @@ fn is_closing(quote: u8, bytes: &[u8], at: usize) -> bool
     bytes[at] == quote && !(at + 1 < bytes.len() && bytes[at + 1] == quote)
 }
 
-/// Whether the byte is the quote or a backslash: where it doesn't close the string, it takes the next
-/// one with it.
+/// Whether the byte is the quote or a backslash: where it doesn't close the string, it takes the
+/// next one with it.
 fn hides_next(quote: u8, byte: u8) -> bool
     ensures { result ≡ (byte == quote || byte == backslash) }
 {

@@ -1,4 +1,20 @@
-ghost use Rattle.std.specs.Prelude.{◌≡◌, ◌+◌, ◌≤◌, ◌<◌, ◌++◌, ◌==◌, ◌||◌, ◌&&◌, nat_lt, map, length, slice_index, IsTrue, IfOk, OnOk};
+ghost use Rattle.std.specs.Prelude.{
+  ◌≡◌,
+  ◌+◌,
+  ◌≤◌,
+  ◌<◌,
+  ◌++◌,
+  ◌==◌,
+  ◌||◌,
+  ◌&&◌,
+  nat_lt,
+  map,
+  length,
+  slice_index,
+  IsTrue,
+  IfOk,
+  OnOk,
+};
 ghost use Rattle.std.specs.Char.{to_ascii_lowercase};
 ghost use Rattle.mc_token.specs.Bytes.{backslash};
 ghost use Rattle.mc_token.specs.Lexemes.{escaped, pair, content, inside, lexeme_of};

@@ -1,6 +1,27 @@
-ghost use Rattle.std.specs.Prelude.{◌≡◌, ◌+◌, ◌≤◌, ◌<◌, ◌==◌, ◌||◌, option_map, drop, length, slice_index, true, IfSome, IsTrue};
+ghost use Rattle.std.specs.Prelude.{
+  ◌≡◌,
+  ◌+◌,
+  ◌≤◌,
+  ◌<◌,
+  ◌==◌,
+  ◌||◌,
+  option_map,
+  drop,
+  length,
+  slice_index,
+  true,
+  IfSome,
+  IsTrue,
+};
 ghost use Rattle.std.specs.Char.{is_ascii_digit};
-ghost use Rattle.mc_token.specs.Bytes.{begins_word, continues_word, is_letter_n, is_letter_x, single_quote, double_quote};
+ghost use Rattle.mc_token.specs.Bytes.{
+  begins_word,
+  continues_word,
+  is_letter_n,
+  is_letter_x,
+  single_quote,
+  double_quote,
+};
 ghost use Rattle.mc_token.specs.Elements.{quote_end};
 ghost use Rattle.mc_token.specs.Spellings.{
   least_len,
@@ -102,15 +123,16 @@ fn other_spelling(bytes: &[u8]) -> Option<Spelling>
 
 /// The spelling of a string with `N` before it, by the bytes behind its first quote.
 fn national_spelling(behind: &[u8]) -> Option<Spelling>
-    ensures value { result ≡ string_spelling Shape.National 2 (quote_end single_quote 0 behind.now) }
+    ensures value { result
+        ≡ string_spelling Shape.National 2 (quote_end single_quote 0 behind.now) }
     ensures long_enough { IfSome result (λ spelling. least_len spelling.shape ≤ spelling.len) }
     ensures within { IfSome result (λ spelling. spelling.len ≤ 2 + length behind.now) }
 {
     string_spelling(Shape::National, 2, quote_end(b'\'', behind), behind)
 }
 
-/// The spelling of a string whose first quote ends behind so many bytes, and that ends at this place
-/// of the bytes behind it, where it is closed.
+/// The spelling of a string whose first quote ends behind so many bytes, and that ends at this
+/// place of the bytes behind it, where it is closed.
 fn string_spelling(
     shape: Shape,
     before: usize,

@@ -36,7 +36,7 @@ use std::alloc::Global;
 const TOKEN_LIMIT: usize = 2048;
 
 /// The tokens of a statement that `next_statement` gave: between them stand spaces and comments
-/// alone, and each is the longest one at its place. NoToken is at the first byte where neither of
+/// alone, and each is the longest one at its place. NoToken is at the first byte where none of
 /// these begins, or a string, a name or a comment that isn't closed. TooManyTokens comes where there
 /// are more than 2,048 tokens and no NoToken. MySQL 8.0 manual, 9.1, 9.2, 9.7 and 10.3.7.
 #[tactic(auto, unfolding(crate::specs::Tokens::tokens_of))]
@@ -65,7 +65,8 @@ fn push_tokens(
     requires in_order { statement.start ≤ statement.end }
     requires within { statement.end ≤ length script.now }
     ensures ok { OnOk result (limited (all_tokens script.now statement) ≡ Ok tokens.new) }
-    ensures err { IfErr result (λ fault. IsCause fault (limited (all_tokens script.now statement))) }
+    ensures err { IfErr result
+        (λ fault. IsCause fault (limited (all_tokens script.now statement))) }
 {
     let end = statement.end as usize;
     let mut at = statement.start as usize;

@@ -25,17 +25,30 @@ const COMMENTS: [Row; 27] = [
     },
     Row {
         script: b"--1",
-        tokens: &[(Mark(Symbol::Minus), 0, 1), (Mark(Symbol::Minus), 1, 2), (Int(1), 2, 3)],
+        tokens: &[
+            (Mark(Symbol::Minus), 0, 1),
+            (Mark(Symbol::Minus), 1, 2),
+            (Int(1), 2, 3),
+        ],
         why: "two dashes before a digit",
     },
     Row {
         script: b"--a",
-        tokens: &[(Mark(Symbol::Minus), 0, 1), (Mark(Symbol::Minus), 1, 2), (Word(b"a"), 2, 3)],
+        tokens: &[
+            (Mark(Symbol::Minus), 0, 1),
+            (Mark(Symbol::Minus), 1, 2),
+            (Word(b"a"), 2, 3),
+        ],
         why: "and before a letter",
     },
     Row {
         script: b"1--2",
-        tokens: &[(Int(1), 0, 1), (Mark(Symbol::Minus), 1, 2), (Mark(Symbol::Minus), 2, 3), (Int(2), 3, 4)],
+        tokens: &[
+            (Int(1), 0, 1),
+            (Mark(Symbol::Minus), 1, 2),
+            (Mark(Symbol::Minus), 2, 3),
+            (Int(2), 3, 4),
+        ],
         why: "a minus and a sign",
     },
     Row {
@@ -60,7 +73,12 @@ const COMMENTS: [Row; 27] = [
     },
     Row {
         script: b"---1",
-        tokens: &[(Mark(Symbol::Minus), 0, 1), (Mark(Symbol::Minus), 1, 2), (Mark(Symbol::Minus), 2, 3), (Int(1), 3, 4)],
+        tokens: &[
+            (Mark(Symbol::Minus), 0, 1),
+            (Mark(Symbol::Minus), 1, 2),
+            (Mark(Symbol::Minus), 2, 3),
+            (Int(1), 3, 4),
+        ],
         why: "three of them",
     },
     Row {

@@ -1,4 +1,4 @@
-use crate::row::Says::{Mark};
+use crate::row::Says::Mark;
 use crate::row::{Row, is_read_so};
 use mc_token::Symbol;
 
@@ -100,7 +100,11 @@ const MARKS: [Row; 56] = [
     },
     Row {
         script: b"<==>",
-        tokens: &[(Mark(Symbol::Le), 0, 2), (Mark(Symbol::Eq), 2, 3), (Mark(Symbol::Gt), 3, 4)],
+        tokens: &[
+            (Mark(Symbol::Le), 0, 2),
+            (Mark(Symbol::Eq), 2, 3),
+            (Mark(Symbol::Gt), 3, 4),
+        ],
         why: "no longer one begins at the second",
     },
     Row {
@@ -120,7 +124,11 @@ const MARKS: [Row; 56] = [
     },
     Row {
         script: b"< =>",
-        tokens: &[(Mark(Symbol::Lt), 0, 1), (Mark(Symbol::Eq), 2, 3), (Mark(Symbol::Gt), 3, 4)],
+        tokens: &[
+            (Mark(Symbol::Lt), 0, 1),
+            (Mark(Symbol::Eq), 2, 3),
+            (Mark(Symbol::Gt), 3, 4),
+        ],
         why: "a space parts them",
     },
     Row {
@@ -265,12 +273,20 @@ const MARKS: [Row; 56] = [
     },
     Row {
         script: b"()",
-        tokens: &[(Mark(Symbol::LeftParen), 0, 1), (Mark(Symbol::RightParen), 1, 2)],
+        tokens: &[
+            (Mark(Symbol::LeftParen), 0, 1),
+            (Mark(Symbol::RightParen), 1, 2),
+        ],
         why: "two parentheses",
     },
     Row {
         script: b"+-*%",
-        tokens: &[(Mark(Symbol::Plus), 0, 1), (Mark(Symbol::Minus), 1, 2), (Mark(Symbol::Star), 2, 3), (Mark(Symbol::Percent), 3, 4)],
+        tokens: &[
+            (Mark(Symbol::Plus), 0, 1),
+            (Mark(Symbol::Minus), 1, 2),
+            (Mark(Symbol::Star), 2, 3),
+            (Mark(Symbol::Percent), 3, 4),
+        ],
         why: "four operators",
     },
     Row {

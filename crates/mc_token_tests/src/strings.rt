@@ -205,7 +205,11 @@ const STRINGS: [Row; 42] = [
     },
     Row {
         script: b"0x41=0x42",
-        tokens: &[(Hex(b"A"), 0, 4), (Mark(Symbol::Eq), 4, 5), (Hex(b"B"), 5, 9)],
+        tokens: &[
+            (Hex(b"A"), 0, 4),
+            (Mark(Symbol::Eq), 4, 5),
+            (Hex(b"B"), 5, 9),
+        ],
         why: "a mark ends them",
     },
     Row {

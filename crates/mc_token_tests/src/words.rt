@@ -80,7 +80,11 @@ const WORDS: [Row; 36] = [
     },
     Row {
         script: b"a.b",
-        tokens: &[(Word(b"a"), 0, 1), (Mark(Symbol::Dot), 1, 2), (Word(b"b"), 2, 3)],
+        tokens: &[
+            (Word(b"a"), 0, 1),
+            (Mark(Symbol::Dot), 1, 2),
+            (Word(b"b"), 2, 3),
+        ],
         why: "a dot parts words",
     },
     Row {
@@ -115,7 +119,11 @@ const WORDS: [Row; 36] = [
     },
     Row {
         script: b"`aaaaaaaaaaaaaaaaaaaaaaaaaaaaaaaaaaaaaaaaaaaaaaaaaaaaaaaaaaaaaaaa`",
-        tokens: &[(Name(b"aaaaaaaaaaaaaaaaaaaaaaaaaaaaaaaaaaaaaaaaaaaaaaaaaaaaaaaaaaaaaaaa"), 0, 66)],
+        tokens: &[(
+            Name(b"aaaaaaaaaaaaaaaaaaaaaaaaaaaaaaaaaaaaaaaaaaaaaaaaaaaaaaaaaaaaaaaa"),
+            0,
+            66,
+        )],
         why: "the longest name",
     },
     Row {
@@ -150,7 +158,11 @@ const WORDS: [Row; 36] = [
     },
     Row {
         script: b"1.e",
-        tokens: &[(Int(1), 0, 1), (Mark(Symbol::Dot), 1, 2), (Word(b"e"), 2, 3)],
+        tokens: &[
+            (Int(1), 0, 1),
+            (Mark(Symbol::Dot), 1, 2),
+            (Word(b"e"), 2, 3),
+        ],
         why: "no exponents",
     },
     Row {
@@ -170,7 +182,12 @@ const WORDS: [Row; 36] = [
     },
     Row {
         script: b"1(2)",
-        tokens: &[(Int(1), 0, 1), (Mark(Symbol::LeftParen), 1, 2), (Int(2), 2, 3), (Mark(Symbol::RightParen), 3, 4)],
+        tokens: &[
+            (Int(1), 0, 1),
+            (Mark(Symbol::LeftParen), 1, 2),
+            (Int(2), 2, 3),
+            (Mark(Symbol::RightParen), 3, 4),
+        ],
         why: "and a mark",
     },
     Row {

@@ -3,6 +3,7 @@ use Rattle.std.proofs.lemmas.List.{length-drop}
 use Rattle.mc_token.proofs.TokenLaws.{tokens-order, tokens-texts}
 use Rattle.mc_token.proofs.HexDigits.{bytes-digits}
 use Rattle.mc_token.proofs.Cover.{tokens_cover, cover_is_tokens}
+use Rattle.mc_token.proofs.Stops.{tokens_stop, stop_is_fault}
 use Rattle.mc_token.proofs.Contents.{says_is, is_said}
 use Rattle.mc_token.proofs.laws.token_laws.Goals as goal
 
@@ -29,3 +30,11 @@ returns-clause-content c = λ quote inside text is_quote is_content. (
   says_is quote inside text is_quote,
   is_said quote inside text is_quote is_content,
 )
+
+pub returns-clause-fault : goal.returns-clause-fault
+returns-clause-fault c = λ script statement place begins ends.
+    let bytes = drop statement.start script in
+    let count = length-drop statement.start script in (
+      tokens_stop statement.end statement.start bytes place begins,
+      stop_is_fault statement.end statement.start bytes place (omega (arith, begins, ends, count)),
+    )
