@@ -5,9 +5,10 @@ use Rattle.mc_token.specs.declared.lexeme.Lexeme.{Lexeme}
 use Rattle.mc_token.specs.declared.lexeme.Lexeme.TheVariants.{Word, Name, Int, Str, National, Hex, Sym}
 use Rattle.mc_token.specs.declared.lexeme.Token.{Token}
 use Rattle.mc_token.specs.declared.lexeme.Symbol.{Symbol}
+use Rattle.mc_token.specs.Marks.{mark_text}
 use Rattle.mc_grammar.specs.Decides.{Ahead, every, Meets, Begins, StandsBehind, MeetsWhole, BeginsWhole, Decides}
 use Rattle.mc_grammar.proofs.Ahead.{both, chosen}
-use Rattle.mc_sql.specs.Classes.{Class, word, mark, name, called, called_otherwise, intro, int, str, national, hex, same_text, spelling, is_reserved, is_intro, is_called, is_lexeme_of}
+use Rattle.mc_sql.specs.Classes.{Class, word, mark, name, called, called_otherwise, intro, int, str, national, hex, same_text, is_reserved, is_intro, is_called, is_lexeme_of}
 use Rattle.mc_sql.specs.Rules.{Rule, statement}
 use Rattle.mc_sql.specs.Statements.{statements}
 use Rattle.mc_sql.proofs.Apart.{are_apart, is_within}
@@ -142,7 +143,7 @@ apart_word _ _ w tokens h p b q c = cc
 -- No lexeme of another kind is of both classes.
 apart_mark : (k l : Class) (symbol : Symbol) → IsTrue (are_apart k l)
     → IsTrue (is_lexeme_of k (Sym symbol)) → IsTrue (is_lexeme_of l (Sym symbol)) → ⊥
-apart_mark (mark a) (mark o) symbol h p q = two_texts a o (spelling symbol) h p q
+apart_mark (mark a) (mark o) symbol h p q = two_texts a o (mark_text symbol) h p q
 apart_mark _ _ symbol h p q = cc
 
 apart_quoted : (k l : Class) (text : List ℕ) → IsTrue (are_apart k l)

@@ -3,8 +3,7 @@ use Rattle.std.specs.Prelude.{Bool, true, false, not, ◌&&◌, ◌||◌, ℕ, L
 use Rattle.mc_grammar.specs.Decides.{any_of}
 use Rattle.mc_token.specs.declared.lexeme.Lexeme.{Lexeme}
 use Rattle.mc_token.specs.declared.lexeme.Lexeme.TheVariants.{Word, Name, Int, Str, National, Hex, Sym}
-use Rattle.mc_token.specs.declared.lexeme.Symbol.{Symbol}
-use Rattle.mc_token.specs.declared.lexeme.Symbol.TheVariants.{LeftParen, RightParen, Comma, Dot, Star, Plus, Minus, Percent, Eq, Ne, NeBang, Lt, Le, Gt, Ge, NullEq}
+use Rattle.mc_token.specs.Marks.{mark_text}
 
 -- The two texts are one.
 abbrev pub same_text : List ℕ → List ℕ → Bool
@@ -45,25 +44,6 @@ unfoldable pub is_called : List ℕ → Bool
 is_called text = same_text text (codes "mod") ||
     (not (is_reserved text) && not (same_text text (codes "cast")))
 
--- The spelling of a mark.
-abbrev pub spelling : Symbol → List ℕ
-spelling LeftParen = codes "("
-spelling RightParen = codes ")"
-spelling Comma = codes ","
-spelling Dot = codes "."
-spelling Star = codes "*"
-spelling Plus = codes "+"
-spelling Minus = codes "-"
-spelling Percent = codes "%"
-spelling Eq = codes "="
-spelling Ne = codes "<>"
-spelling NeBang = codes "!="
-spelling Lt = codes "<"
-spelling Le = codes "<="
-spelling Gt = codes ">"
-spelling Ge = codes ">="
-spelling NullEq = codes "<=>"
-
 -- The classes of tokens that the grammar asks for: a word, a mark, NAME, the word of a call with
 -- its arguments alone, the same without `weight_string`, INTRO, and the literals.
 pub data Class : Type 0 where
@@ -81,7 +61,7 @@ pub data Class : Type 0 where
 -- The lexeme is of the class.
 abbrev pub is_lexeme_of : Class → Lexeme → Bool
 is_lexeme_of (word text) (Word w) = same_text w text
-is_lexeme_of (mark text) (Sym symbol) = same_text (spelling symbol) text
+is_lexeme_of (mark text) (Sym symbol) = same_text (mark_text symbol) text
 is_lexeme_of name (Word w) = not (is_reserved w)
 is_lexeme_of name (Name w) = true
 is_lexeme_of called (Word w) = is_called w

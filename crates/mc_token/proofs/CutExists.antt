@@ -2,7 +2,7 @@
 use Rattle.std.proofs.Common.{◌≡◌, ◌≢◌, ℕ, ◌+◌, ◌==◌, Bool, true, false, ◌⊎◌, inl, inr, List, [], ◌∷◌, ◌++◌, length, Option, Some, None, refl, ap, sym, subst, ◌∙◌, append_assoc, append-nil}
 use Rattle.std.proofs.lemmas.Bool.{eqb-true, eqb-false}
 use Rattle.mc_token.specs.Bytes.{is_space, exclamation, star, slash, semicolon}
-use Rattle.mc_token.specs.Elements.{block_end, quote_end}
+use Rattle.mc_token.specs.Elements.{opens_line, opens_block, block_end, quote_end}
 use Rattle.mc_token.specs.declared.element.Kind.{Kind}
 use Rattle.mc_token.specs.declared.element.Kind.TheVariants.{Space, Comment, Quoted, Unclosed, Semicolon, Other}
 use Rattle.mc_token.specs.Comments.{EndOr, OpensLine, IsBlockComment}
@@ -10,7 +10,7 @@ use Rattle.mc_token.specs.Strings.{IsQuote, OpensString, IsString}
 use Rattle.mc_token.specs.Cut.{IsElement}
 use Rattle.mc_token.proofs.CutParts.{line_of, block_closes, block_is}
 use Rattle.mc_token.proofs.CutStrings.{string_closes, string_is}
-use Rattle.mc_token.proofs.CutOpenings.{line_opens, block_opens, string_opens, same_first, line_said, line_holds, block_said, block_test_holds, quote_said, quote_holds}
+use Rattle.mc_token.proofs.CutOpenings.{string_opens, same_first, line_said, line_holds, block_said, block_test_holds, quote_said, quote_holds}
 use Rattle.mc_token.proofs.CutElements.{string_of, block_of, opens_none, not_backslash}
 
 -- An element begins these bytes.
@@ -151,9 +151,9 @@ part_of first rest = elim (true_or_false (is_space first)) [
   | inl w ↦ one_byte Space first rest (first, refl, w)
   | inr w ↦ elim (true_or_false (first == semicolon)) [
     | inl v ↦ one_byte Semicolon first rest (ap (λ b. b ∷ []) (eqb-true first semicolon v))
-    | inr v ↦ elim (true_or_false (line_opens first rest)) [
+    | inr v ↦ elim (true_or_false (opens_line first rest)) [
       | inl u ↦ line_part first rest (line_said first rest u)
-      | inr u ↦ elim (true_or_false (block_opens first rest)) [
+      | inr u ↦ elim (true_or_false (opens_block first rest)) [
         | inl t ↦ let o = block_said first rest t in
             subst Part (sym o.1) (block_part o.0 (block_end 1 o.0) refl o.2)
         | inr t ↦ elim (true_or_false (string_opens first)) [
@@ -164,8 +164,8 @@ part_of first rest = elim (true_or_false (is_space first)) [
             (
               w,
               eqb-false first semicolon v,
-              (λ o. not_both (line_opens first rest) u (line_holds first rest o)),
-              (λ o. not_both (block_opens first rest) t (block_test_holds first rest o)),
+              (λ o. not_both (opens_line first rest) u (line_holds first rest o)),
+              (λ o. not_both (opens_block first rest) t (block_test_holds first rest o)),
               (λ o. not_both (string_opens first) s (quote_first first rest o)),
             ),
           )

@@ -3,7 +3,7 @@ use Rattle.std.proofs.Common.{◌≡◌, ◌≢◌, ℕ, ◌+◌, ◌==◌, ◌&
 use Rattle.std.proofs.lemmas.Bool.{eqb-true, eqb-false}
 use Rattle.std.proofs.lemmas.Bool.Decides.{nat_tests}
 use Rattle.mc_token.specs.Bytes.{is_space, exclamation, double_quote, number_sign, single_quote, star, dash, slash, semicolon}
-use Rattle.mc_token.specs.Elements.{line_len, is_dash_comment, is_block_comment, block_end, quote_end, closed, element_of}
+use Rattle.mc_token.specs.Elements.{line_len, is_dash_comment, is_block_comment, opens_line, opens_block, block_end, quote_end, closed, element_of}
 use Rattle.mc_token.specs.declared.element.Element.{Element}
 use Rattle.mc_token.specs.declared.element.Kind.{Kind}
 use Rattle.mc_token.specs.declared.element.Kind.TheVariants.{Space, Comment, Quoted, Semicolon, Other}
@@ -16,12 +16,6 @@ abbrev pub element_with : Kind → ℕ → Element
 element_with kind len = record { kind = kind; len = len }
 
 -- What the tests say
-
-abbrev pub line_opens : ℕ → List ℕ → Bool
-line_opens first rest = first == number_sign || (first == dash && is_dash_comment rest)
-
-abbrev pub block_opens : ℕ → List ℕ → Bool
-block_opens first rest = first == slash && is_block_comment rest
 
 abbrev pub string_opens : ℕ → Bool
 string_opens first = first == single_quote || first == double_quote
@@ -51,7 +45,7 @@ dash_holds : (behind : List ℕ) → EndOr (λ (byte : ℕ). is_space byte ≡ t
 dash_holds [] h = refl
 dash_holds (next ∷ behind) h = rw (not_zero (length behind)) h
 
-pub line_said : (first : ℕ) (rest : List ℕ) → line_opens first rest ≡ true
+pub line_said : (first : ℕ) (rest : List ℕ) → opens_line first rest ≡ true
     → OpensLine (first ∷ rest)
 line_said first rest h = elim (either_true (first == number_sign) _ h) [
   | inl w ↦ inl (rest, ap (λ b. b ∷ rest) (eqb-true first number_sign w))
@@ -84,7 +78,7 @@ block_holds : (behind : List ℕ) → EndOr (λ (byte : ℕ). byte ≢ exclamati
 block_holds [] h = refl
 block_holds (next ∷ behind) h = rw (is_other next exclamation h) refl
 
-pub block_said : (first : ℕ) (rest : List ℕ) → block_opens first rest ≡ true
+pub block_said : (first : ℕ) (rest : List ℕ) → opens_block first rest ≡ true
     → OpensBlock (first ∷ rest)
 block_said first rest h =
     let both = both_true (first == slash) (is_block_comment rest) h in
@@ -109,7 +103,7 @@ pub same_first : (first second : ℕ) (rest others : List ℕ) → first ∷ res
 same_first first second rest others h = (cc, cc)
 
 pub line_holds : (first : ℕ) (rest : List ℕ) → OpensLine (first ∷ rest)
-    → line_opens first rest ≡ true
+    → opens_line first rest ≡ true
 line_holds first rest (inl h) =
     let same = same_first first number_sign rest h.0 h.1 in
     rw (is_equal first number_sign same.0) refl
@@ -120,7 +114,7 @@ line_holds first rest (inr h) =
     rw (is_equal first dash same.0, opens) (or_true (first == number_sign))
 
 pub block_test_holds : (first : ℕ) (rest : List ℕ) → OpensBlock (first ∷ rest)
-    → block_opens first rest ≡ true
+    → opens_block first rest ≡ true
 block_test_holds first rest h =
     let same = same_first first slash rest (star ∷ h.0) h.1 in
     let opens : is_block_comment rest ≡ true =
@@ -192,7 +186,7 @@ element_string quote rest (inr h) =
     subst (λ (q : ℕ). element_of q rest ≡ closed Quoted (quote_end q 0 rest) rest) (sym h)
     (double_string rest)
 
-refuted : (b : Bool) → (b ≡ true → ⊥) → b ≡ false
+pub refuted : (b : Bool) → (b ≡ true → ⊥) → b ≡ false
 refuted true h = absurd (h refl)
 refuted false h = refl
 
@@ -202,7 +196,7 @@ unfolding element_of
 element_other first rest h =
     let space = h.0 in
     let semi = is_other first semicolon h.1 in
-    let line = refuted (line_opens first rest) (λ e. h.2 (line_said first rest e)) in
-    let block = refuted (block_opens first rest) (λ e. h.3 (block_said first rest e)) in
+    let line = refuted (opens_line first rest) (λ e. h.2 (line_said first rest e)) in
+    let block = refuted (opens_block first rest) (λ e. h.3 (block_said first rest e)) in
     let string = refuted (string_opens first) (λ e. h.4 (first, rest, quote_said first e, refl)) in
     rw (space, semi, line, block, string) refl

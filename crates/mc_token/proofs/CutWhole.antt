@@ -57,7 +57,7 @@ takes_by bytes taken behind left kind element e same whole h =
       is_element = h;
     }))
 
-takes_first : (first : ℕ) (rest : List ℕ)
+pub takes_first : (first : ℕ) (rest : List ℕ)
     → Takes (first ∷ rest) (element_of first rest) (drop ((element_of first rest).len - 1) rest)
 takes_first first rest =
     let p = part_of first rest in

@@ -6,6 +6,9 @@ pub mod CutStrings
 pub mod CutOpenings
 pub mod CutElements
 pub mod SpelledRuns
+pub mod Blanks
+pub mod Marks
+pub mod Numbers
 pub mod SpelledFound
 pub mod SpelledFirst
 pub mod SpelledOne
@@ -13,8 +16,13 @@ pub mod CutExists
 pub mod CutWhole
 pub mod Statements
 pub mod HexDigits
+pub mod Pieces
 pub mod Lexing
 pub mod TokenLawsText
 pub mod TokenLawsCuts
 pub mod TokenLaws
 pub mod Cover
+pub mod Stops
+pub mod Keywords
+pub mod Parts
+pub mod Contents

@@ -1,22 +1,27 @@
 -- The spelling found is that of a token.
-use Rattle.std.proofs.Common.{◌≡◌, ◌≢◌, ℕ, ◌+◌, ◌<◌, ◌%◌, ◌==◌, ◌||◌, ◌&&◌, not, Bool, true, false, inl, inr, List, [], ◌∷◌, ◌++◌, Option, Some, None, length, take, drop, get_or, ltb, suc, refl, ap, sym, subst, subst₂, append_assoc, length-append, ◌∙◌, arith}
-use Rattle.std.specs.Char.{is_ascii_hexdigit}
+use Rattle.std.proofs.Common.{◌≡◌, ◌≢◌, ℕ, ℤ, ◌+◌, ◌<◌, ◌≤◌, ◌%◌, ◌==◌, ◌||◌, ◌&&◌, not, Bool, true, false, inl, inr, List, [], ◌∷◌, ◌++◌, Option, Some, None, length, take, drop, get_or, ltb, leb, suc, refl, ap, sym, subst, subst₂, append_assoc, length-append, ◌∙◌, arith}
+use Rattle.std.specs.Prelude.{option_map}
+use Rattle.std.specs.Char.{is_ascii_digit, is_ascii_hexdigit}
 use Rattle.std.proofs.lemmas.Bool.{eqb-true}
 use Rattle.std.proofs.lemmas.Bool.Decides.{nat_tests}
 use Rattle.std.proofs.lemmas.Option.{same_Some}
 use Rattle.std.proofs.Math.Seq.{take-append_seam, drop-append_seam}
-use Rattle.mc_token.specs.Bytes.{begins_word, continues_word, is_letter_n, is_letter_x, small_x, digit_zero, single_quote, double_quote, left_paren, right_paren, equals}
+use Rattle.mc_token.specs.Bytes.{begins_word, continues_word, is_letter_n, is_letter_x, small_x, digit_zero, single_quote, double_quote, backquote}
 use Rattle.mc_token.specs.Elements.{quote_end}
 use Rattle.mc_token.specs.Hexadecimal.{digits_len}
-use Rattle.mc_token.specs.Spellings.{word_len, opens_single, string_spelling, hex_string_spelling, hex_number_spelling, mark_spelling, spelling_of}
-use Rattle.mc_token.specs.Spelled.{OpensPrefixed, IsSpelled}
-use Rattle.mc_token.specs.declared.lexeme.Symbol.TheVariants.{LeftParen, RightParen, Eq}
+use Rattle.mc_token.specs.Marks.{mark_text, mark_of}
+use Rattle.mc_token.specs.Numbers.{decimals_len, int_of}
+use Rattle.mc_token.specs.Spellings.{word_len, opens_single, opens_hex, string_spelling, hex_string_spelling, hex_number_spelling, int_spelling, number_spelling, closes_name, name_spelling, mark_spelling, spelling_of}
+use Rattle.mc_token.specs.Spelled.{AreAll, EndOrNo, OpensPrefixed, name_limit, IsSpelled}
+use Rattle.mc_token.specs.declared.lexeme.Symbol.{Symbol}
 use Rattle.mc_token.specs.declared.spelling.Spelling.{Spelling}
-use Rattle.mc_token.specs.declared.spelling.Shape.TheVariants.{Word, Str, National, HexString, HexNumber, Sym}
+use Rattle.mc_token.specs.declared.spelling.Shape.TheVariants.{Word, Name, Int, Str, National, HexString, HexNumber, Sym}
 use Rattle.mc_token.proofs.Choices.{which}
 use Rattle.mc_token.proofs.CutStrings.{string_closes}
 use Rattle.mc_token.proofs.CutElements.{string_of}
 use Rattle.mc_token.proofs.CutOpenings.{same_first, quote_said}
+use Rattle.mc_token.proofs.CutParts.{both_true}
+use Rattle.mc_token.proofs.Marks.{mark_begins, mark_longest}
 use Rattle.mc_token.proofs.SpelledRuns.{run_of, end_or_no, get_or-run, first_of}
 
 -- A token of this spelling begins the bytes.
@@ -192,66 +197,162 @@ front-hex_number rest spelling some ends s =
       );
     })
 
-three-true : (a b c : Bool) → (a && b && not c) ≡ true
-    → (a ≡ true) × (b ≡ true) × (c ≡ false)
-three-true true true true e = cc
-three-true true true false e = (refl, refl, refl)
-three-true true false c e = cc
-three-true false b c e = cc
+negated : (b : Bool) → not b ≡ true → b ≡ false
+negated true e = cc
+negated false e = refl
 
-front-zero : (others : List ℕ) (spelling : Spelling)
-    → hex_number_spelling others ≡ Some spelling → Front (digit_zero ∷ others) spelling
-front-zero [] spelling s = absurd (cc)
-front-zero (second ∷ rest) spelling s =
+front-hex : (first : ℕ) (others : List ℕ) (spelling : Spelling)
+    → (first == digit_zero && opens_hex others) ≡ true
+    → hex_number_spelling (drop 1 others) ≡ Some spelling → Front (first ∷ others) spelling
+front-hex first others spelling opens s =
+    let rest = drop 1 others in
     let digits = digits_len rest in
-    let one : suc digits ≡ 1 + digits = omega arith in
-    elim (which (second == small_x && ltb 0 digits
-    && not (continues_word (get_or (second ∷ rest) (1 + digits) 0))) _ _ _ s) [
+    let both = both_true (first == digit_zero) (opens_hex others) opens in
+    let zero_is = eqb-true first digit_zero both.0 in
+    let x : others ≡ small_x ∷ rest =
+    first_of others small_x (eqb-true (get_or others 0 0) small_x both.1) (omega arith) in
+    elim (which (ltb 0 digits && not (continues_word (get_or rest digits 0))) _ _ _ s) [
       | inl w ↦
-          let all = three-true (second == small_x) (ltb 0 digits)
-          (continues_word (get_or (second ∷ rest) (1 + digits) 0)) w.0 in
-          let x : second ≡ small_x = eqb-true second small_x all.0 in
-          let some : 0 < digits = grind (arith, nat_tests, all.1) in
-          let ends : continues_word (get_or rest digits 0) ≡ false =
-          ap (λ n. continues_word (get_or (second ∷ rest) n 0)) one ∙ all.2 in
-          subst (λ b. Front (digit_zero ∷ b ∷ rest) spelling) (sym x)
-          (front-hex_number rest spelling some ends w.1)
+          let all = both_true (ltb 0 digits) (not (continues_word (get_or rest digits 0))) w.0 in
+          let some : 0 < digits = grind (arith, nat_tests, all.0) in
+          subst₂ (λ (b : ℕ) (l : List ℕ). Front (b ∷ l) spelling) (sym zero_is) (sym x)
+          (front-hex_number rest spelling some
+          (negated (continues_word (get_or rest digits 0)) all.1) w.1)
       | inr w ↦ absurd (cc)
     ]
 
-front-mark : (first : ℕ) (others : List ℕ) (spelling : Spelling)
-    → mark_spelling first ≡ Some spelling → Front (first ∷ others) spelling
-front-mark first others spelling s = elim (which (first == left_paren) _ _ _ s) [
-  | inl w ↦ subst (Front (first ∷ others))
-      (same_Some (record { shape = Sym LeftParen; len = 1 }) spelling w.1) (record {
-        taken = first ∷ [];
-        behind = others;
-        bytes_are = refl;
-        len_is = refl;
-        is_spelled = inl (refl, ap (λ b. b ∷ []) (eqb-true first left_paren w.0));
-      })
-  | inr w ↦ elim (which (first == right_paren) _ _ _ w.1) [
-    | inl v ↦ subst (Front (first ∷ others))
-        (same_Some (record { shape = Sym RightParen; len = 1 }) spelling v.1) (record {
-          taken = first ∷ [];
-          behind = others;
-          bytes_are = refl;
-          len_is = refl;
-          is_spelled = inr (inl (refl, ap (λ b. b ∷ []) (eqb-true first right_paren v.0)));
-        })
-    | inr v ↦ elim (which (first == equals) _ _ _ v.1) [
-      | inl u ↦ subst (Front (first ∷ others))
-          (same_Some (record { shape = Sym Eq; len = 1 }) spelling u.1) (record {
-            taken = first ∷ [];
-            behind = others;
-            bytes_are = refl;
-            len_is = refl;
-            is_spelled = inr (inr (refl, ap (λ b. b ∷ []) (eqb-true first equals u.0)));
-          })
-      | inr u ↦ absurd (cc)
+-- The run that the bytes begin with, and the byte behind it.
+next-of : (bytes run behind : List ℕ) (len : ℕ) → bytes ≡ run ++ behind → len ≡ length run
+    → get_or bytes len 0 ≡ get_or behind 0 0
+next-of bytes run behind len whole count =
+    ap (λ n. get_or bytes n 0) count ∙ ap (λ l. get_or l (length run) 0) whole
+    ∙ get_or-run run behind
+
+front-int_by : (first : ℕ) (others : List ℕ) (spelling : Spelling) (number : Option ℤ)
+    → is_ascii_digit first ≡ true → int_of (first ∷ take (decimals_len others) others) ≡ number
+    → continues_word (get_or others (decimals_len others) 0) ≡ false
+    → option_map (λ n. record { shape = Int n; len = 1 + decimals_len others }) number
+    ≡ Some spelling
+    → Front (first ∷ others) spelling
+front-int_by first others spelling None digit e ends s = absurd (cc)
+front-int_by first others spelling (Some number) digit e ends s =
+    let len = decimals_len others in
+    let r = run_of is_ascii_digit others in
+    let same = same_Some (record { shape = Int number; len = 1 + len }) spelling s in
+    let taken : take len others ≡ r.run = ap (λ n. take n others) r.len_is
+    ∙ ap (take (length r.run)) r.bytes_are ∙ take-append_seam r.run r.behind in
+    let next = next-of others r.run r.behind len r.bytes_are r.len_is in
+    subst (Front (first ∷ others)) same (record {
+      taken = first ∷ r.run;
+      behind = r.behind;
+      bytes_are = ap (λ l. first ∷ l) r.bytes_are;
+      len_is = omega (arith, r.len_is);
+      is_spelled = (
+        (λ none. absurd (cc)),
+        (digit, r.are_all),
+        ap (λ l. int_of (first ∷ l)) (sym taken) ∙ e,
+        end_or_no continues_word r.behind (subst (λ b. continues_word b ≡ false) next ends),
+      );
+    })
+
+front-int : (first : ℕ) (others : List ℕ) (spelling : Spelling) → is_ascii_digit first ≡ true
+    → int_spelling first others ≡ Some spelling → Front (first ∷ others) spelling
+front-int first others spelling digit s =
+    elim (which (continues_word (get_or others (decimals_len others) 0)) _ _ _ s) [
+      | inl w ↦ absurd (cc)
+      | inr w ↦ front-int_by first others spelling _ digit refl w.0 w.1
     ]
-  ]
-]
+
+front-number : (first : ℕ) (others : List ℕ) (spelling : Spelling) → is_ascii_digit first ≡ true
+    → number_spelling first others ≡ Some spelling → Front (first ∷ others) spelling
+front-number first others spelling digit s =
+    elim (which (first == digit_zero && opens_hex others) _ _ _ s) [
+      | inl w ↦ front-hex first others spelling w.0 w.1
+      | inr w ↦ front-int first others spelling digit w.1
+    ]
+
+-- The tests of a name between backquotes.
+record Named (len : ℕ) (others : List ℕ) : Type 0 where
+  some : 0 < len
+  few : len ≤ name_limit
+  no_digit : is_ascii_digit (get_or others 0 0) ≡ false
+  closes : get_or others len 0 ≡ backquote
+
+named : (len : ℕ) (others : List ℕ) → closes_name len others ≡ true → Named len others
+named len others e =
+    let a = both_true (ltb 0 len && leb len name_limit && not (is_ascii_digit (get_or others 0 0)))
+    (get_or others len 0 == backquote) e in
+    let b = both_true (ltb 0 len && leb len name_limit) (not (is_ascii_digit (get_or others 0 0)))
+    a.0 in
+    let c = both_true (ltb 0 len) (leb len name_limit) b.0 in
+    record {
+      some = grind (arith, nat_tests, c.0);
+      few = grind (arith, nat_tests, c.1);
+      no_digit = negated (is_ascii_digit (get_or others 0 0)) b.1;
+      closes = eqb-true (get_or others len 0) backquote a.1;
+    }
+
+-- a name with its first byte
+name-by : (run behind : List ℕ) → 0 < length run → length run ≤ name_limit
+    → is_ascii_digit (get_or (run ++ behind) 0 0) ≡ false → AreAll continues_word run
+    → IsSpelled Name (backquote ∷ run ++ backquote ∷ []) behind
+name-by [] behind some few no_digit all = absurd (omega arith)
+name-by (first ∷ others) behind some few no_digit all =
+    (first, others, refl, no_digit, all, few)
+
+front-name : (others : List ℕ) (spelling : Spelling) → name_spelling others ≡ Some spelling
+    → Front (backquote ∷ others) spelling
+front-name others spelling s =
+    let len = word_len others in
+    elim (which (closes_name len others) _ _ _ s) [
+      | inl w ↦
+          let n = named len others w.0 in
+          let r = run_of continues_word others in
+          let quoted : get_or r.behind 0 0 ≡ backquote =
+          sym (next-of others r.run r.behind len r.bytes_are r.len_is) ∙ n.closes in
+          let last = first_of r.behind backquote quoted (omega arith) in
+          let assoc = append_assoc r.run (backquote ∷ []) (drop 1 r.behind) in
+          let count = length-append r.run (backquote ∷ []) in
+          let same = same_Some (record { shape = Name; len = 2 + len }) spelling w.1 in
+          let first : is_ascii_digit (get_or (r.run ++ r.behind) 0 0) ≡ false =
+          subst (λ (l : List ℕ). is_ascii_digit (get_or l 0 0) ≡ false) r.bytes_are n.no_digit in
+          subst (Front (backquote ∷ others)) same (record {
+            taken = backquote ∷ r.run ++ backquote ∷ [];
+            behind = drop 1 r.behind;
+            bytes_are = ap (λ l. backquote ∷ l) (r.bytes_are ∙ ap (λ l. r.run ++ l) last
+                ∙ sym assoc);
+            len_is = omega (arith, r.len_is);
+            is_spelled = name-by r.run r.behind (omega (arith, n.some, r.len_is))
+                (omega (arith, n.few, r.len_is)) first r.are_all;
+          })
+      | inr w ↦ absurd (cc)
+    ]
+
+front-mark_by : (first : ℕ) (others : List ℕ) (spelling : Spelling) (found : Option Symbol)
+    → mark_of first others ≡ found
+    → option_map (λ symbol. record { shape = Sym symbol; len = length (mark_text symbol) }) found
+    ≡ Some spelling
+    → Front (first ∷ others) spelling
+front-mark_by first others spelling None e s = absurd (cc)
+front-mark_by first others spelling (Some symbol) e s =
+    let b = mark_begins first others symbol e in
+    let same = same_Some (record { shape = Sym symbol; len = length (mark_text symbol) })
+    spelling s in
+    subst (Front (first ∷ others)) same (record {
+      taken = mark_text symbol;
+      behind = b.behind;
+      bytes_are = b.bytes_are;
+      len_is = refl;
+      is_spelled = record {
+        taken_is = refl;
+        longest = λ other rest whole. mark_longest first others symbol e other rest
+            (b.bytes_are ∙ whole);
+      };
+    })
+
+front-mark : (first : ℕ) (others : List ℕ) (spelling : Spelling)
+    → mark_spelling first others ≡ Some spelling → Front (first ∷ others) spelling
+front-mark first others spelling s = front-mark_by first others spelling _ refl s
 
 -- The spelling found is that of a token.
 pub front : (first : ℕ) (others : List ℕ) (spelling : Spelling)
@@ -272,12 +373,13 @@ front first others spelling e =
           | inl u ↦ front-word first others spelling (no-prefix first others w.0 v.0) u.0 u.1
           | inr u ↦ elim (which (first == single_quote || first == double_quote) _ _ _ u.1) [
             | inl t ↦ front-string first others _ spelling t.0 refl t.1
-            | inr t ↦ elim (which (first == digit_zero) _ _ _ t.1) [
-              | inl z ↦
-                  let zero_is = eqb-true first digit_zero z.0 in
-                  subst (λ b. Front (b ∷ others) spelling) (sym zero_is)
-                  (front-zero others spelling z.1)
-              | inr z ↦ front-mark first others spelling z.1
+            | inr t ↦ elim (which (is_ascii_digit first) _ _ _ t.1) [
+              | inl z ↦ front-number first others spelling z.0 z.1
+              | inr z ↦ elim (which (first == backquote) _ _ _ z.1) [
+                | inl y ↦ subst (λ b. Front (b ∷ others) spelling)
+                    (sym (eqb-true first backquote y.0)) (front-name others spelling y.1)
+                | inr y ↦ front-mark first others spelling y.1
+              ]
             ]
           ]
         ]

@@ -1,22 +1,27 @@
 -- The spelling of a token is the one found.
-use Rattle.std.proofs.Common.{◌≡◌, ◌≢◌, ℕ, ◌+◌, ◌<◌, ◌%◌, ◌==◌, ◌||◌, ◌&&◌, Bool, true, false, inl, inr, List, [], ◌∷◌, ◌++◌, Option, Some, length, drop, get_or, ltb, suc, refl, ap, sym, subst, append_assoc, length-append, ◌∙◌, arith}
-use Rattle.std.specs.Char.{is_ascii_hexdigit}
+use Rattle.std.proofs.Common.{◌≡◌, ◌≢◌, ℕ, ℤ, ◌+◌, ◌<◌, ◌≤◌, ◌%◌, ◌==◌, ◌||◌, ◌&&◌, not, Bool, true, false, inl, inr, List, [], ◌∷◌, ◌++◌, Option, Some, None, length, take, drop, get_or, ltb, leb, suc, refl, ap, sym, subst, append_assoc, length-append, ◌∙◌, arith}
+use Rattle.std.specs.Prelude.{option_map}
+use Rattle.std.specs.Char.{is_ascii_digit, is_ascii_hexdigit}
+use Rattle.std.proofs.Math.Seq.{take-append_seam}
 use Rattle.std.proofs.lemmas.Bool.Decides.{nat_tests}
-use Rattle.mc_token.specs.Bytes.{begins_word, continues_word, is_letter_n, is_letter_x, small_x, digit_zero, single_quote, left_paren, right_paren, equals}
+use Rattle.mc_token.specs.Bytes.{begins_word, continues_word, is_letter_n, is_letter_x, small_x, digit_zero, single_quote, double_quote, backquote}
 use Rattle.mc_token.specs.Elements.{quote_end}
 use Rattle.mc_token.specs.Hexadecimal.{digits_len}
 use Rattle.mc_token.specs.Strings.{IsQuote, IsString}
-use Rattle.mc_token.specs.Spellings.{word_len, opens_single, string_spelling, hex_string_spelling, hex_number_spelling, spelling_of}
-use Rattle.mc_token.specs.Spelled.{EndOrNo, OpensPrefixed, IsWord, IsNational, IsHexString, IsHexNumber, IsMark, IsSpelled}
+use Rattle.mc_token.specs.Marks.{mark_text, IsMark, mark_of}
+use Rattle.mc_token.specs.Numbers.{decimals_len, int_of}
+use Rattle.mc_token.specs.Spellings.{word_len, opens_single, opens_hex, string_spelling, hex_string_spelling, hex_number_spelling, int_spelling, closes_name, name_spelling, mark_spelling, spelling_of}
+use Rattle.mc_token.specs.Spelled.{AreAll, EndOrNo, OpensPrefixed, name_limit, IsWord, IsName, IsInt, IsNational, IsHexString, IsHexNumber, IsSpelled}
 use Rattle.mc_token.specs.declared.lexeme.Symbol.{Symbol}
-use Rattle.mc_token.specs.declared.lexeme.Symbol.TheVariants.{LeftParen, RightParen, Eq}
+use Rattle.mc_token.specs.declared.lexeme.Symbol.TheVariants.{LeftParen, RightParen, Comma, Dot, Star, Plus, Minus, Percent, Eq, Ne, NeBang, Lt, Le, Gt, Ge, NullEq}
 use Rattle.mc_token.specs.declared.spelling.Spelling.{Spelling}
 use Rattle.mc_token.specs.declared.spelling.Shape.{Shape}
-use Rattle.mc_token.specs.declared.spelling.Shape.TheVariants.{Word, Str, National, HexString, HexNumber, Sym}
+use Rattle.mc_token.specs.declared.spelling.Shape.TheVariants.{Word, Name, Int, Str, National, HexString, HexNumber, Sym}
 use Rattle.mc_token.proofs.CutStrings.{string_is}
 use Rattle.mc_token.proofs.CutElements.{not_backslash}
 use Rattle.mc_token.proofs.CutOpenings.{same_first}
 use Rattle.mc_token.proofs.SpelledFound.{letter-opens}
+use Rattle.mc_token.proofs.Marks.{mark_at, mark_first, mark_is}
 use Rattle.mc_token.proofs.SpelledRuns.{run_is, no_first, get_or-run}
 
 abbrev pub spelling_with : Shape → ℕ → Spelling
@@ -36,6 +41,10 @@ same_len : (shape : Shape) (found : Option Spelling) (len count : ℕ)
 same_len shape found len count e same = e ∙ ap (λ n. Some (spelling_with shape n)) same
 
 -- What a first byte finds
+
+and_false : (b : Bool) → (b && false) ≡ false
+and_false true = refl
+and_false false = refl
 
 by-not : (b : Bool) → (b ≡ true → ⊥) → b ≡ false
 by-not true never = absurd (never refl)
@@ -93,23 +102,63 @@ unfolding spelling_of
 found-string quote rest (inl e) = rw e refl
 found-string quote rest (inr e) = rw e refl
 
-found-zero : (rest : List ℕ) → spelling_of digit_zero rest ≡ hex_number_spelling rest
+found-hex : (rest : List ℕ) → spelling_of digit_zero (small_x ∷ rest) ≡ hex_number_spelling rest
 unfolding spelling_of
-found-zero rest = refl
+found-hex rest = refl
 
-found-left_paren : (rest : List ℕ)
-    → spelling_of left_paren rest ≡ Some (spelling_with (Sym LeftParen) 1)
-unfolding spelling_of
-found-left_paren rest = refl
+-- a digit begins no word, and is neither a quote nor a letter
+record NoOther (first : ℕ) : Type 0 where
+  no_n : is_letter_n first ≡ false
+  no_x : is_letter_x first ≡ false
+  no_word : begins_word first ≡ false
+  no_quote : (first == single_quote || first == double_quote) ≡ false
 
-found-right_paren : (rest : List ℕ)
-    → spelling_of right_paren rest ≡ Some (spelling_with (Sym RightParen) 1)
-unfolding spelling_of
-found-right_paren rest = refl
+digit-other : (first : ℕ) → is_ascii_digit first ≡ true → NoOther first
+digit-other first e = record {
+  no_n = grind (arith, nat_tests);
+  no_x = grind (arith, nat_tests);
+  no_word = grind (arith, nat_tests);
+  no_quote = grind (arith, nat_tests);
+}
 
-found-equals : (rest : List ℕ) → spelling_of equals rest ≡ Some (spelling_with (Sym Eq) 1)
+found-int : (first : ℕ) (rest : List ℕ) → is_ascii_digit first ≡ true → opens_hex rest ≡ false
+    → spelling_of first rest ≡ int_spelling first rest
 unfolding spelling_of
-found-equals rest = refl
+found-int first rest digit no_hex =
+    let o = digit-other first digit in
+    rw (o.no_n, o.no_x, o.no_word, o.no_quote, digit, no_hex, and_false (first == digit_zero)) refl
+
+found-name : (rest : List ℕ) → spelling_of backquote rest ≡ name_spelling rest
+unfolding spelling_of
+found-name rest = refl
+
+abbrev spelling_at : List ℕ → Option Spelling
+spelling_at [] = None
+spelling_at (first ∷ others) = spelling_of first others
+
+abbrev mark_spelling_at : List ℕ → Option Spelling
+mark_spelling_at [] = None
+mark_spelling_at (first ∷ others) = mark_spelling first others
+
+found-mark : (symbol : Symbol) (rest : List ℕ)
+    → spelling_at (mark_text symbol ++ rest) ≡ mark_spelling_at (mark_text symbol ++ rest)
+unfolding spelling_of
+found-mark LeftParen rest = refl
+found-mark RightParen rest = refl
+found-mark Comma rest = refl
+found-mark Dot rest = refl
+found-mark Star rest = refl
+found-mark Plus rest = refl
+found-mark Minus rest = refl
+found-mark Percent rest = refl
+found-mark Eq rest = refl
+found-mark Ne rest = refl
+found-mark NeBang rest = refl
+found-mark Lt rest = refl
+found-mark Le rest = refl
+found-mark Gt rest = refl
+found-mark Ge rest = refl
+found-mark NullEq rest = refl
 
 -- The shapes
 
@@ -212,13 +261,10 @@ no_digits (byte ∷ behind) e = no_digit byte e
 
 hex_number-is : (bytes : List ℕ) (len : ℕ) → digits_len bytes ≡ len → 0 < len
     → continues_word (get_or bytes len 0) ≡ false
-    → hex_number_spelling (small_x ∷ bytes) ≡ Some (spelling_with HexNumber (2 + len))
+    → hex_number_spelling bytes ≡ Some (spelling_with HexNumber (2 + len))
 hex_number-is bytes len e some ends =
-    let one : 1 + len ≡ suc len = omega arith in
     let long : ltb 0 len ≡ true = grind (arith, nat_tests) in
-    let next : continues_word (get_or (small_x ∷ bytes) (1 + len) 0) ≡ false =
-    ap (λ n. continues_word (get_or (small_x ∷ bytes) n 0)) one ∙ ends in
-    rw (e, long, next) refl
+    rw (e, long, ends) refl
 
 some-digits : (digits : List ℕ) → digits ≢ [] → 0 < length digits
 some-digits [] h = absurd (h refl)
@@ -238,30 +284,108 @@ longest-hex_number taken behind h =
       others = small_x ∷ rest;
       begins = ap (λ l. l ++ behind) h.1;
       longest = same_len HexNumber _ (2 + length digits) (length taken)
-          (found-zero (small_x ∷ rest)
+          (found-hex rest
           ∙ hex_number-is rest (length digits) len (some-digits digits h.2) next)
           (omega (arith, ap length h.1));
     }
 
-longest-one : (symbol one : Symbol) (byte : ℕ) (taken behind : List ℕ) → symbol ≡ one
-    → taken ≡ byte ∷ [] → spelling_of byte behind ≡ Some (spelling_with (Sym one) 1)
-    → Longest (Sym symbol) taken behind
-longest-one symbol one byte taken behind same e found =
-    subst (λ s. Longest (Sym s) taken behind) (sym same) (record {
-      first = byte;
-      others = behind;
-      begins = ap (λ l. l ++ behind) e;
-      longest = same_len (Sym one) _ 1 (length taken) found (sym (ap length e));
-    })
+-- the first byte behind digits is no `x`
+no_hex : (behind : List ℕ) → EndOrNo continues_word behind → opens_hex behind ≡ false
+no_hex [] e = refl
+no_hex (byte ∷ behind) e = grind (arith, nat_tests)
 
-longest-mark : (symbol : Symbol) (taken behind : List ℕ) → IsMark symbol taken
+digit-no_hex : (byte : ℕ) → is_ascii_digit byte ≡ true → (byte == small_x) ≡ false
+digit-no_hex byte e = grind (arith, nat_tests)
+
+digits-no_hex : (digits behind : List ℕ) → AreAll is_ascii_digit digits
+    → EndOrNo continues_word behind → opens_hex (digits ++ behind) ≡ false
+digits-no_hex [] behind all e = no_hex behind e
+digits-no_hex (byte ∷ digits) behind all e = digit-no_hex byte all.0
+
+no_decimal : (byte : ℕ) → continues_word byte ≡ false → is_ascii_digit byte ≡ false
+no_decimal byte e = grind (arith, nat_tests)
+
+no_decimals : (behind : List ℕ) → EndOrNo continues_word behind → EndOrNo is_ascii_digit behind
+no_decimals [] e = tt
+no_decimals (byte ∷ behind) e = no_decimal byte e
+
+int-is : (first : ℕ) (digits behind : List ℕ) (number : ℤ)
+    → decimals_len (digits ++ behind) ≡ length digits → int_of (first ∷ digits) ≡ Some number
+    → continues_word (get_or (digits ++ behind) (length digits) 0) ≡ false
+    → int_spelling first (digits ++ behind) ≡ Some (spelling_with (Int number) (1 + length digits))
+int-is first digits behind number len e ends =
+    let taken = take-append_seam digits behind in
+    rw (len, ends, taken, e) refl
+
+longest-int : (number : ℤ) (taken behind : List ℕ) → IsInt number taken behind
+    → Longest (Int number) taken behind
+longest-int number [] behind h = absurd (h.0 refl)
+longest-int number (first ∷ digits) behind h =
+    let rest = digits ++ behind in
+    let len : decimals_len rest ≡ length digits =
+    run_is is_ascii_digit digits behind h.1.1 (no_decimals behind h.3) in
+    let next : continues_word (get_or rest (length digits) 0) ≡ false =
+    ap continues_word (get_or-run digits behind) ∙ no_first continues_word behind refl h.3 in
+    record {
+      first = first;
+      others = rest;
+      begins = refl;
+      longest = same_len (Int number) _ (1 + length digits) (length (first ∷ digits))
+          (found-int first rest h.1.0 (digits-no_hex digits behind h.1.1 h.3)
+          ∙ int-is first digits behind number len h.2 next)
+          (omega arith);
+    }
+
+name-closes : (len : ℕ) (bytes : List ℕ) → 0 < len → len ≤ name_limit
+    → is_ascii_digit (get_or bytes 0 0) ≡ false → get_or bytes len 0 ≡ backquote
+    → closes_name len bytes ≡ true
+name-closes len bytes some few no_digit closes =
+    let long : ltb 0 len ≡ true = grind (arith, nat_tests) in
+    let short : leb len name_limit ≡ true = grind (arith, nat_tests) in
+    rw (long, short, no_digit, closes) refl
+
+name-is : (bytes : List ℕ) (len : ℕ) → word_len bytes ≡ len → closes_name len bytes ≡ true
+    → name_spelling bytes ≡ Some (spelling_with Name (2 + len))
+name-is bytes len e closes = rw (e, closes) refl
+
+longest-name : (taken behind : List ℕ) → IsName taken → Longest Name taken behind
+longest-name taken behind h =
+    let name = h.0 ∷ h.1 in
+    let rest = name ++ backquote ∷ behind in
+    let assoc : (name ++ backquote ∷ []) ++ behind ≡ rest =
+    append_assoc name (backquote ∷ []) behind in
+    let count = length-append name (backquote ∷ []) in
+    let len : word_len rest ≡ length name =
+    run_is continues_word name (backquote ∷ behind) h.4 refl in
+    let last : get_or rest (length name) 0 ≡ backquote = get_or-run name (backquote ∷ behind) in
+    let closes = name-closes (length name) rest (omega arith) h.5 h.3 last in
+    record {
+      first = backquote;
+      others = rest;
+      begins = ap (λ l. l ++ behind) h.2 ∙ ap (λ l. backquote ∷ l) assoc;
+      longest = same_len Name _ (2 + length name) (length taken)
+          (found-name rest ∙ name-is rest (length name) len closes)
+          (omega (arith, ap length h.2));
+    }
+
+longest-mark : (symbol : Symbol) (taken behind : List ℕ) → IsMark symbol taken behind
     → Longest (Sym symbol) taken behind
-longest-mark symbol taken behind (inl h) =
-    longest-one symbol LeftParen left_paren taken behind h.0 h.1 (found-left_paren behind)
-longest-mark symbol taken behind (inr (inl h)) =
-    longest-one symbol RightParen right_paren taken behind h.0 h.1 (found-right_paren behind)
-longest-mark symbol taken behind (inr (inr h)) =
-    longest-one symbol Eq equals taken behind h.0 h.1 (found-equals behind)
+longest-mark symbol taken behind h =
+    let m = mark_first symbol in
+    let whole : mark_text symbol ++ behind ≡ m.first ∷ (m.others ++ behind) =
+    ap (λ l. l ++ behind) m.text_is in
+    let found : mark_spelling m.first (m.others ++ behind)
+    ≡ Some (spelling_with (Sym symbol) (length (mark_text symbol))) =
+    ap (option_map (λ s. spelling_with (Sym s) (length (mark_text s))))
+    (ap mark_at (sym whole) ∙ mark_is symbol taken behind h) in
+    record {
+      first = m.first;
+      others = m.others ++ behind;
+      begins = ap (λ l. l ++ behind) h.taken_is ∙ whole;
+      longest = same_len (Sym symbol) _ (length (mark_text symbol)) (length taken)
+          (ap spelling_at (sym whole) ∙ found-mark symbol behind ∙ ap mark_spelling_at whole
+          ∙ found) (sym (ap length h.taken_is));
+    }
 
 -- The spelling of a token is the one found.
 pub longest : (shape : Shape) (taken behind : List ℕ) → IsSpelled shape taken behind
@@ -272,3 +396,5 @@ longest National taken behind h = longest-national taken behind h
 longest HexString taken behind h = longest-hex_string taken behind h
 longest HexNumber taken behind h = longest-hex_number taken behind h
 longest (Sym symbol) taken behind h = longest-mark symbol taken behind h
+longest Name taken behind h = longest-name taken behind h
+longest (Int number) taken behind h = longest-int number taken behind h

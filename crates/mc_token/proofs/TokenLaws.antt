@@ -1,38 +1,56 @@
 -- The laws of the tokens of a statement, by what begins at a byte.
-use Rattle.std.proofs.Common.{◌≡◌, ℕ, ◌+◌, ◌-◌, ◌<◌, ◌≤◌, Bool, true, false, List, [], ◌∷◌, ◌++◌, Option, Some, None, Result, Ok, Err, length, take, drop, get_or, suc, zero, inl, inr, ◌⊎◌, refl, ap, sym, subst, ◌∙◌, length-append, append_assoc, length-take, length-drop, subst₂, arith}
-use Rattle.std.specs.Prelude.{slice_range, nat_le}
+use Rattle.std.proofs.Common.{◌≡◌, ℕ, ◌+◌, ◌-◌, ◌<◌, ◌≤◌, Bool, true, false, List, [], ◌∷◌, ◌++◌, Option, Some, None, Result, Ok, Err, length, take, drop, get_or, leb, suc, zero, inl, inr, ◌⊎◌, refl, ap, sym, subst, ◌∙◌, length-append, append_assoc, arith}
+use Rattle.std.specs.Prelude.{nat_le}
 use Rattle.std.specs.Str.{IsUtf8}
+use Rattle.std.proofs.Math.Seq.{take-append_seam, get_or-append_seam}
+use Rattle.std.proofs.lemmas.Bool.Decides.{nat_tests}
+use Rattle.std.proofs.lemmas.List.{take-append-drop}
 use Rattle.mc_base.specs.declared.span.Span.{Span}
-use Rattle.mc_token.specs.Bytes.{is_space, single_quote}
-use Rattle.mc_token.specs.Spellings.{spelling_of}
+use Rattle.mc_token.specs.Bytes.{single_quote}
 use Rattle.mc_token.specs.Lexemes.{content, inside, lexeme_of}
-use Rattle.mc_token.specs.Tokens.{with_front, token_of, tokens_behind, tokens_in, limited, token_limit, tokens_of}
+use Rattle.mc_token.specs.Spelled.{IsNational, IsSpelled}
+use Rattle.mc_token.specs.Spellings.{spelling_of}
+use Rattle.mc_token.specs.Strings.{IsQuote, IsString}
+use Rattle.mc_token.specs.Tokens.{with_front, token_of, piece_of, tokens_behind, limited, token_limit, all_tokens, tokens_of}
 use Rattle.mc_token.specs.TokenLaws.{AreInOrder, HasUtf8Text, HaveUtf8Texts}
 use Rattle.mc_token.specs.declared.lexeme.Token.{Token}
 use Rattle.mc_token.specs.declared.lexeme.LexFault.{LexFault}
 use Rattle.mc_token.specs.declared.lexeme.LexFault.TheVariants.{NoToken, TooManyTokens}
+use Rattle.mc_token.specs.declared.piece.Piece.{Piece}
+use Rattle.mc_token.specs.declared.piece.Piece.TheVariants.{Blank, Begun, Nothing}
 use Rattle.mc_token.specs.declared.spelling.Spelling.{Spelling}
 use Rattle.mc_token.specs.declared.spelling.Shape.{Shape}
-use Rattle.mc_token.specs.declared.spelling.Shape.TheVariants.{Word, Str, National, HexString, HexNumber, Sym}
-use Rattle.mc_token.proofs.TokenLawsCuts.{AreCutsUtf8, cuts-behind, cuts-slice}
-use Rattle.mc_token.proofs.TokenLawsText.{content-utf8}
+use Rattle.mc_token.specs.declared.spelling.Shape.TheVariants.{Word, Name, Int, Str, National, HexString, HexNumber, Sym}
 use Rattle.mc_token.proofs.CutOpenings.{same_first}
+use Rattle.mc_token.proofs.Pieces.{blank_of, piece_token}
 use Rattle.mc_token.proofs.SpelledFirst.{spelled}
 use Rattle.mc_token.proofs.SpelledFound.{front, front_spelled}
-use Rattle.mc_token.specs.Strings.{IsQuote, IsString}
-use Rattle.mc_token.specs.Spelled.{IsNational, IsSpelled}
-use Rattle.std.proofs.Math.Seq.{take-append_seam, get_or-append_seam}
-use Rattle.std.proofs.lemmas.List.{take-append-drop}
+use Rattle.mc_token.proofs.TokenLawsCuts.{AreCutsUtf8, cuts-behind, cuts-drop, cuts-whole}
+use Rattle.mc_token.proofs.TokenLawsText.{content-utf8}
 
 -- What begins at a byte
 
+-- A space or a comment begins at this byte, and all the tokens are behind it.
+record Passed (end at : ℕ) (behind : List ℕ) (tokens : List Token) : Type 0 where
+  len : ℕ
+  before : at < end
+  fits : len ≤ end - at
+  lexed : tokens_behind end (len - 1) (at + 1) behind ≡ Ok tokens
+
 -- A token begins at this byte, and these are all the tokens.
-record Begun (at byte : ℕ) (behind : List ℕ) (tokens : List Token) : Type 0 where
+record Started (end at byte : ℕ) (behind : List ℕ) (tokens : List Token) : Type 0 where
   spelling : Spelling
   rest : List Token
+  before : at < end
+  fits : spelling.len ≤ end - at
   spelled : spelling_of byte behind ≡ Some spelling
-  lexed : tokens_behind (spelling.len - 1) (at + 1) behind ≡ Ok rest
+  lexed : tokens_behind end (spelling.len - 1) (at + 1) behind ≡ Ok rest
   all : tokens ≡ token_of at spelling (byte ∷ behind) ∷ rest
+
+-- The end is here, or one of the two begins.
+abbrev Found : (end at byte : ℕ) → List ℕ → List Token → Type 0
+Found end at byte behind tokens =
+    (tokens ≡ []) ⊎ (Passed end at behind tokens ⊎ Started end at byte behind tokens)
 
 front-Ok : (token : Token) (lexed : Result (List Token) LexFault) (tokens : List Token)
     → with_front (token ∷ []) lexed ≡ Ok tokens
@@ -40,86 +58,93 @@ front-Ok : (token : Token) (lexed : Result (List Token) LexFault) (tokens : List
 front-Ok token (Ok rest) tokens e = (rest, refl, cc)
 front-Ok token (Err fault) tokens e = absurd (cc)
 
-begun-by : (at byte : ℕ) (behind : List ℕ) (tokens : List Token)
-    (space : Bool) (found : Option Spelling)
-    → is_space byte ≡ space → spelling_of byte behind ≡ found
-    → tokens_behind zero at (byte ∷ behind) ≡ Ok tokens
-    → (tokens_behind zero (at + 1) behind ≡ Ok tokens) ⊎ Begun at byte behind tokens
+is_before : (end at : ℕ) → leb end at ≡ false → at < end
+is_before end at e = grind (arith, nat_tests)
+
+found-by : (end at byte : ℕ) (behind : List ℕ) (tokens : List Token) (past : Bool) (piece : Piece)
+    → leb end at ≡ past → piece_of (end - at) byte behind ≡ piece
+    → tokens_behind end zero at (byte ∷ behind) ≡ Ok tokens → Found end at byte behind tokens
 unfolding tokens_behind
-begun-by at byte behind tokens true found s f e = inl (rw s at e)
-begun-by at byte behind tokens false None s f e =
-    let no : Err (NoToken at) ≡ Ok tokens = rw (s, f) at e in absurd (cc)
-begun-by at byte behind tokens false (Some spelling) s f e =
+found-by end at byte behind tokens true piece p f e =
+    let none : ◌≡◌ {A = Result (List Token) LexFault} (Ok []) (Ok tokens) = rw p at e in inl (cc)
+found-by end at byte behind tokens false Nothing p f e =
+    let no : Err (NoToken at) ≡ Ok tokens = rw (p, f) at e in absurd (cc)
+found-by end at byte behind tokens false (Blank len) p f e = inr (inl (record {
+  len = len;
+  before = is_before end at p;
+  fits = (blank_of (end - at) len byte behind f).fits;
+  lexed = rw (p, f) at e;
+}))
+found-by end at byte behind tokens false (Begun spelling) p f e =
     let token = token_of at spelling (byte ∷ behind) in
-    let lexed = tokens_behind (spelling.len - 1) (at + 1) behind in
-    let all : with_front (token ∷ []) lexed ≡ Ok tokens = rw (s, f) at e in
+    let lexed = tokens_behind end (spelling.len - 1) (at + 1) behind in
+    let all : with_front (token ∷ []) lexed ≡ Ok tokens = rw (p, f) at e in
     let parts = front-Ok token lexed tokens all in
-    inr (record {
+    let t = piece_token (end - at) spelling byte behind f in
+    inr (inr (record {
       spelling = spelling;
       rest = parts.0;
-      spelled = f;
+      before = is_before end at p;
+      fits = t.fits;
+      spelled = t.spelled;
       lexed = parts.1;
       all = parts.2;
-    })
+    }))
 
--- A space, and then all the tokens; or a token.
-begun : (at byte : ℕ) (behind : List ℕ) (tokens : List Token)
-    → tokens_behind zero at (byte ∷ behind) ≡ Ok tokens
-    → (tokens_behind zero (at + 1) behind ≡ Ok tokens) ⊎ Begun at byte behind tokens
-begun at byte behind tokens e =
-    begun-by at byte behind tokens (is_space byte) (spelling_of byte behind) refl refl e
+-- What a byte begins, by its tokens.
+found : (end at byte : ℕ) (behind : List ℕ) (tokens : List Token)
+    → tokens_behind end zero at (byte ∷ behind) ≡ Ok tokens → Found end at byte behind tokens
+found end at byte behind tokens e =
+    found-by end at byte behind tokens (leb end at) (piece_of (end - at) byte behind) refl refl e
 
-none-left : (skipped at : ℕ) (tokens : List Token) → tokens_behind skipped at [] ≡ Ok tokens
-    → tokens ≡ []
+none-left : (end skipped at : ℕ) (tokens : List Token)
+    → tokens_behind end skipped at [] ≡ Ok tokens → tokens ≡ []
 unfolding tokens_behind
-none-left skipped at tokens e = cc
+none-left end skipped at tokens e = cc
 
-skip-one : (skipped at byte : ℕ) (behind : List ℕ)
-    → tokens_behind (suc skipped) at (byte ∷ behind) ≡ tokens_behind skipped (at + 1) behind
+skip-one : (end skipped at byte : ℕ) (behind : List ℕ)
+    → tokens_behind end (suc skipped) at (byte ∷ behind) ≡ tokens_behind end skipped (at + 1) behind
 unfolding tokens_behind
-skip-one skipped at byte behind = refl
+skip-one end skipped at byte behind = refl
 
 -- Their order
 
 -- A bound farther in front is a bound too.
 earlier : (other from to : ℕ) (tokens : List Token) → other ≤ from → AreInOrder from to tokens
     → AreInOrder other to tokens
-earlier other from to [] l o = omega arith
-earlier other from to (token ∷ tokens) l o = (omega (arith, o.0), o.1, o.2)
+earlier other from to [] l o = omega (arith, l, o)
+earlier other from to (token ∷ tokens) l o = (omega (arith, l, o.0), o.1, o.2)
 
-order-at : (at byte : ℕ) (behind : List ℕ) (tokens : List Token)
-    → ((skipped : ℕ) (more : List Token) → skipped ≤ length behind
-    → tokens_behind skipped (at + 1) behind ≡ Ok more
-    → AreInOrder (at + 1 + skipped) (at + 1 + length behind) more)
-    → (tokens_behind zero (at + 1) behind ≡ Ok tokens) ⊎ Begun at byte behind tokens
-    → AreInOrder at (at + 1 + length behind) tokens
-order-at at byte behind tokens more (inl e) =
-    earlier at (at + 1 + 0) (at + 1 + length behind) tokens (omega arith)
-    (more zero tokens (omega arith) e)
-order-at at byte behind tokens more (inr b) =
+order-at : (end at byte : ℕ) (behind : List ℕ) (tokens : List Token) → at ≤ end
+    → ((skipped : ℕ) (more : List Token) → at + 1 + skipped ≤ end
+    → tokens_behind end skipped (at + 1) behind ≡ Ok more → AreInOrder (at + 1 + skipped) end more)
+    → Found end at byte behind tokens → AreInOrder at end tokens
+order-at end at byte behind tokens h more (inl none) = subst (AreInOrder at end) (sym none) h
+order-at end at byte behind tokens h more (inr (inl p)) =
+    earlier at (at + 1 + (p.len - 1)) end tokens (omega arith)
+    (more (p.len - 1) tokens (omega (arith, p.before, p.fits)) p.lexed)
+order-at end at byte behind tokens h more (inr (inr b)) =
     let s = spelled byte behind b.spelling b.spelled in
     let place : at + 1 + (b.spelling.len - 1) ≡ at + b.spelling.len = omega (arith, s.some) in
-    let rest = more (b.spelling.len - 1) b.rest (omega (arith, s.within)) b.lexed in
-    let to = at + 1 + length behind in
-    subst (AreInOrder at to) (sym b.all)
-    (omega arith, omega (arith, s.some), subst (λ from. AreInOrder from to b.rest) place rest)
+    let rest = more (b.spelling.len - 1) b.rest (omega (arith, b.before, b.fits)) b.lexed in
+    subst (AreInOrder at end) (sym b.all)
+    (omega arith, omega (arith, s.some), subst (λ from. AreInOrder from end b.rest) place rest)
 
-order : (skipped at : ℕ) (bytes : List ℕ) (tokens : List Token) → skipped ≤ length bytes
-    → tokens_behind skipped at bytes ≡ Ok tokens
-    → AreInOrder (at + skipped) (at + length bytes) tokens
-order skipped at [] tokens within e =
-    subst (AreInOrder (at + skipped) (at + 0)) (sym (none-left skipped at tokens e)) (omega arith)
-order (suc skipped) at (byte ∷ behind) tokens within e =
+order : (end skipped at : ℕ) (bytes : List ℕ) (tokens : List Token) → at + skipped ≤ end
+    → tokens_behind end skipped at bytes ≡ Ok tokens → AreInOrder (at + skipped) end tokens
+order end skipped at [] tokens h e =
+    subst (AreInOrder (at + skipped) end) (sym (none-left end skipped at tokens e)) h
+order end (suc skipped) at (byte ∷ behind) tokens h e =
     let from : at + 1 + skipped ≡ at + suc skipped = omega arith in
-    let to : at + 1 + length behind ≡ at + length (byte ∷ behind) = omega arith in
-    subst₂ (λ first last. AreInOrder first last tokens) from to
-    (order skipped (at + 1) behind tokens (omega arith) (sym (skip-one skipped at byte behind) ∙ e))
-order zero at (byte ∷ behind) tokens within e =
+    subst (λ first. AreInOrder first end tokens) from
+    (order end skipped (at + 1) behind tokens (omega (arith, h))
+    (sym (skip-one end skipped at byte behind) ∙ e))
+order end zero at (byte ∷ behind) tokens h e =
     let from : at ≡ at + zero = omega arith in
-    let to : at + 1 + length behind ≡ at + length (byte ∷ behind) = omega arith in
-    subst₂ (λ first last. AreInOrder first last tokens) from to
-    (order-at at byte behind tokens (λ skipped more. order skipped (at + 1) behind more)
-    (begun at byte behind tokens e))
+    subst (λ first. AreInOrder first end tokens) from
+    (order-at end at byte behind tokens (omega (arith, h))
+    (λ skipped more. order end skipped (at + 1) behind more)
+    (found end at byte behind tokens e))
 
 -- Their texts
 
@@ -187,19 +212,21 @@ text-of : (shape : Shape) (taken behind : List ℕ) → IsSpelled shape taken be
     → AreCutsUtf8 (taken ++ behind) → HasUtf8Text (lexeme_of shape taken)
 unfolding lexeme_of
 text-of Word taken behind h cuts = tt
+text-of Name taken behind h cuts = tt
+text-of (Int number) taken behind h cuts = tt
 text-of HexString taken behind h cuts = tt
 text-of HexNumber taken behind h cuts = tt
 text-of (Sym symbol) taken behind h cuts = tt
 text-of Str taken behind h cuts = text-string taken behind h cuts
 text-of National taken behind h cuts = text-national taken behind h cuts
 
-texts-at : (at byte : ℕ) (behind : List ℕ) (tokens : List Token) → AreCutsUtf8 (byte ∷ behind)
-    → ((skipped : ℕ) (more : List Token) → tokens_behind skipped (at + 1) behind ≡ Ok more
+texts-at : (end at byte : ℕ) (behind : List ℕ) (tokens : List Token) → AreCutsUtf8 (byte ∷ behind)
+    → ((skipped : ℕ) (more : List Token) → tokens_behind end skipped (at + 1) behind ≡ Ok more
     → HaveUtf8Texts more)
-    → (tokens_behind zero (at + 1) behind ≡ Ok tokens) ⊎ Begun at byte behind tokens
-    → HaveUtf8Texts tokens
-texts-at at byte behind tokens cuts more (inl e) = more zero tokens e
-texts-at at byte behind tokens cuts more (inr b) =
+    → Found end at byte behind tokens → HaveUtf8Texts tokens
+texts-at end at byte behind tokens cuts more (inl none) = subst HaveUtf8Texts (sym none) tt
+texts-at end at byte behind tokens cuts more (inr (inl p)) = more (p.len - 1) tokens p.lexed
+texts-at end at byte behind tokens cuts more (inr (inr b)) =
     let len = b.spelling.len in
     let bytes = byte ∷ behind in
     let is_spelled =
@@ -210,17 +237,18 @@ texts-at at byte behind tokens cuts more (inr b) =
       more (b.spelling.len - 1) b.rest b.lexed,
     )
 
-texts : (skipped at : ℕ) (bytes : List ℕ) (tokens : List Token) → AreCutsUtf8 bytes
-    → tokens_behind skipped at bytes ≡ Ok tokens
+texts : (end skipped at : ℕ) (bytes : List ℕ) (tokens : List Token) → AreCutsUtf8 bytes
+    → tokens_behind end skipped at bytes ≡ Ok tokens
     → HaveUtf8Texts tokens
-texts skipped at [] tokens cuts e = subst HaveUtf8Texts (sym (none-left skipped at tokens e)) tt
-texts (suc skipped) at (byte ∷ behind) tokens cuts e =
-    texts skipped (at + 1) behind tokens (cuts-behind byte behind cuts)
-    (sym (skip-one skipped at byte behind) ∙ e)
-texts zero at (byte ∷ behind) tokens cuts e =
-    texts-at at byte behind tokens cuts
-    (λ skipped more. texts skipped (at + 1) behind more (cuts-behind byte behind cuts))
-    (begun at byte behind tokens e)
+texts end skipped at [] tokens cuts e =
+    subst HaveUtf8Texts (sym (none-left end skipped at tokens e)) tt
+texts end (suc skipped) at (byte ∷ behind) tokens cuts e =
+    texts end skipped (at + 1) behind tokens (cuts-behind byte behind cuts)
+    (sym (skip-one end skipped at byte behind) ∙ e)
+texts end zero at (byte ∷ behind) tokens cuts e =
+    texts-at end at byte behind tokens cuts
+    (λ skipped more. texts end skipped (at + 1) behind more (cuts-behind byte behind cuts))
+    (found end at byte behind tokens e)
 
 -- The statement
 
@@ -235,30 +263,23 @@ all-of (Ok all) tokens e = ap Ok (limited-Ok (nat_le (length all) token_limit) a
 all-of (Err fault) tokens e = absurd (cc)
 
 statement-tokens : (script : List ℕ) (statement : Span) (tokens : List Token)
-    → tokens_of script statement ≡ Ok tokens
-    → tokens_in statement.start (slice_range script statement.start statement.end) ≡ Ok tokens
+    → tokens_of script statement ≡ Ok tokens → all_tokens script statement ≡ Ok tokens
 unfolding tokens_of
-statement-tokens script statement tokens e =
-    let bytes = slice_range script statement.start statement.end in
-    all-of (tokens_in statement.start bytes) tokens e
+statement-tokens script statement tokens e = all-of (all_tokens script statement) tokens e
 
 pub tokens-order : (script : List ℕ) (statement : Span) (tokens : List Token)
     → statement.start ≤ statement.end → statement.end ≤ length script
     → tokens_of script statement ≡ Ok tokens → AreInOrder statement.start statement.end tokens
 tokens-order script statement tokens begins ends e =
-    let bytes = slice_range script statement.start statement.end in
     let from : statement.start + zero ≡ statement.start = omega arith in
-    let count = length-take (statement.end - statement.start) (drop statement.start script) in
-    let to : statement.start + length bytes ≡ statement.end =
-    omega (arith, count, length-drop statement.start script) in
-    subst₂ (λ first last. AreInOrder first last tokens) from to
-    (order zero statement.start bytes tokens (omega arith)
-    (statement-tokens script statement tokens e))
+    subst (λ first. AreInOrder first statement.end tokens) from
+    (order statement.end zero statement.start (drop statement.start script) tokens
+    (omega (arith, begins)) (statement-tokens script statement tokens e))
 
 pub tokens-texts : (script : List ℕ) (statement : Span) (tokens : List Token) → IsUtf8 script
     → tokens_of script statement ≡ Ok tokens
     → HaveUtf8Texts tokens
 tokens-texts script statement tokens utf8 e =
-    texts zero statement.start (slice_range script statement.start statement.end) tokens
-    (cuts-slice statement.start (statement.end - statement.start) script utf8)
+    texts statement.end zero statement.start (drop statement.start script) tokens
+    (cuts-drop statement.start script (cuts-whole script utf8))
     (statement-tokens script statement tokens e)

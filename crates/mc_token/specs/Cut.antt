@@ -5,7 +5,8 @@ use Rattle.mc_token.specs.Comments.{OpensLine, OpensBlock, IsLineComment, IsBloc
 use Rattle.mc_token.specs.Strings.{OpensString, IsString}
 use Rattle.mc_token.specs.declared.element.Element.{Element}
 use Rattle.mc_token.specs.declared.element.Kind.{Kind}
-use Rattle.mc_token.specs.declared.element.Kind.TheVariants.{Space, Comment, Quoted, Unclosed, Semicolon, Other}
+use Rattle.mc_token.specs.declared.element.Kind.TheVariants.{Space, Comment, Quoted, Unclosed}
+use Rattle.mc_token.specs.declared.element.Kind.TheVariants.{Semicolon, Other}
 
 -- No such part begins the bytes.
 abbrev pub HasNo : ((taken behind : List ℕ) → Type 0) → List ℕ → Type 0

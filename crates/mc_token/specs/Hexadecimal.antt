@@ -1,5 +1,6 @@
 -- The digits of hexadecimal literals, and their bytes: MySQL 8.0 manual, 9.1.4.
-use Rattle.std.specs.Prelude.{ℕ, ◌+◌, ◌*◌, ◌/◌, ◌%◌, ◌==◌, not, List, [], ◌∷◌, unwrap_or, length, map, position, if◌then◌else◌}
+use Rattle.std.specs.Prelude.{ℕ, ◌+◌, ◌*◌, ◌/◌, ◌%◌, ◌==◌, not, List, [], ◌∷◌, unwrap_or, length}
+use Rattle.std.specs.Prelude.{map, position, if◌then◌else◌}
 use Rattle.std.specs.Char.{is_ascii_hexdigit}
 use Rattle.std.specs.List.{flat_map}
 use Rattle.mc_base.specs.Hex.{hex_digit}
@@ -21,7 +22,8 @@ paired (sixteens ∷ ones ∷ digits) = (16 * digit_value sixteens + digit_value
 
 -- The bytes that digits stand for: an odd number of them counts as if a 0 stood before it.
 abbrev pub bytes_of_digits : List ℕ → List ℕ
-bytes_of_digits digits = if length digits % 2 == 1 then paired (digit_zero ∷ digits) else paired digits
+bytes_of_digits digits =
+    if length digits % 2 == 1 then paired (digit_zero ∷ digits) else paired digits
 
 -- The values of digits, with a 0 before an odd number of them.
 abbrev pub values_of : List ℕ → List ℕ

@@ -1,4 +1,21 @@
-ghost use Rattle.std.specs.Prelude.{◌≡◌, ◌∷◌, ◌<◌, ◌≤◌, ◌+◌, ◌==◌, ◌&&◌, ◌||◌, false, not, nat_lt, drop, length, slice_index, IfSome, IsTrue};
+ghost use Rattle.std.specs.Prelude.{
+  ◌≡◌,
+  ◌∷◌,
+  ◌<◌,
+  ◌≤◌,
+  ◌+◌,
+  ◌==◌,
+  ◌&&◌,
+  ◌||◌,
+  false,
+  not,
+  nat_lt,
+  drop,
+  length,
+  slice_index,
+  IfSome,
+  IsTrue,
+};
 ghost use Rattle.std.specs.List.{position_or_len};
 ghost use Rattle.mc_token.specs.Bytes.{is_space, star, slash, backslash};
 ghost use Rattle.mc_token.specs.Elements.{
@@ -7,12 +24,15 @@ ghost use Rattle.mc_token.specs.Elements.{
   quote_end,
   is_dash_comment,
   is_block_comment,
+  opens_line,
+  opens_block,
   single,
   closed,
   element_of,
   elements,
 };
 ghost use Rattle.mc_token.specs.Statements.{is_end};
+ghost use Rattle.mc_token.specs.Tokens.{blank_len};
 
 /// What an element of a script is.
 #[derive(Clone, Copy, Debug, PartialEq, Eq)]
@@ -42,7 +62,8 @@ pub struct Element {
 #[tactic(auto, using(crate::proofs::Elements::elements_steps))]
 pub fn element_at(script: &[u8], at: usize) -> Element
     requires { at < length script.now }
-    ensures cut { elements (drop at script.now) ≡ result ∷ elements (drop (at + result.len) script.now) }
+    ensures cut { elements (drop at script.now)
+        ≡ result ∷ elements (drop (at + result.len) script.now) }
     ensures not_empty { 0 < result.len }
     ensures one_byte { IsTrue (is_end result.kind) → result.len ≡ 1 }
     ensures within { at + result.len ≤ length script.now }
@@ -62,12 +83,12 @@ fn element_of(first: u8, behind: &[u8]) -> Element
         single(Kind::Space)
     } else if first == b';' {
         single(Kind::Semicolon)
-    } else if first == b'#' || (first == b'-' && is_dash_comment(behind)) {
+    } else if opens_line(first, behind) {
         Element {
             kind: Kind::Comment,
             len: 1 + line_len(behind),
         }
-    } else if first == b'/' && is_block_comment(behind) {
+    } else if opens_block(first, behind) {
         closed(Kind::Comment, block_end(behind), behind)
     } else if first == b'\'' || first == b'"' {
         closed(Kind::Quoted, quote_end(first, behind), behind)
@@ -76,8 +97,43 @@ fn element_of(first: u8, behind: &[u8]) -> Element
     }
 }
 
+/// How many bytes the space or the closed comment has that this byte begins, if it begins one.
+#[tactic(auto, using(crate::proofs::Blanks::blank_steps))]
+pub fn blank_len(first: u8, behind: &[u8]) -> Option<usize>
+    ensures value { result ≡ blank_len first behind.now }
+    ensures not_empty { IfSome result (λ len. 0 < len) }
+    ensures within { IfSome result (λ len. len ≤ 1 + length behind.now) }
+{
+    if is_space(first) {
+        Some(1)
+    } else if opens_line(first, behind) {
+        Some(1 + line_len(behind))
+    } else if opens_block(first, behind) {
+        match block_end(behind) {
+            Some(end) => Some(1 + end),
+            None => None,
+        }
+    } else {
+        None
+    }
+}
+
+/// Whether a comment to the end of the line begins here.
+fn opens_line(first: u8, behind: &[u8]) -> bool
+    ensures { result ≡ opens_line first behind.now }
+{
+    first == b'#' || (first == b'-' && is_dash_comment(behind))
+}
+
+/// Whether a comment up to `*/` begins here.
+fn opens_block(first: u8, behind: &[u8]) -> bool
+    ensures { result ≡ opens_block first behind.now }
+{
+    first == b'/' && is_block_comment(behind)
+}
+
 /// Whether the byte is a space, TAB, LF, VT, FF or CR.
-pub fn is_space(byte: u8) -> bool
+fn is_space(byte: u8) -> bool
     ensures { result ≡ is_space byte }
 {
     byte == b' ' || (b'\t' <= byte && byte <= b'\r')
@@ -149,7 +205,8 @@ fn block_end(behind: &[u8]) -> Option<usize>
 /// Whether `*/` begins at this place.
 fn ends_block(bytes: &[u8], at: usize) -> bool
     requires { at < length bytes.now }
-    ensures value { result ≡ (slice_index bytes.now at == star && slice_index bytes.now (at + 1) == slash) }
+    ensures value { result
+        ≡ (slice_index bytes.now at == star && slice_index bytes.now (at + 1) == slash) }
     ensures within { IsTrue result → at + 1 < length bytes.now }
 {
     bytes[at] == b'*' && at + 1 < bytes.len() && bytes[at + 1] == b'/'
@@ -198,8 +255,8 @@ fn is_closing(quote: u8, bytes: &[u8], at: usize) -> bool
     bytes[at] == quote && !(at + 1 < bytes.len() && bytes[at + 1] == quote)
 }
 
-/// Whether the byte is the quote or a backslash: where it doesn't close the string, it takes the next
-/// one with it.
+/// Whether the byte is the quote or a backslash: where it doesn't close the string, it takes the
+/// next one with it.
 fn hides_next(quote: u8, byte: u8) -> bool
     ensures { result ≡ (byte == quote || byte == backslash) }
 {

@@ -1,24 +1,40 @@
-ghost use Rattle.std.specs.Prelude.{◌≡◌, ◌↔◌, ℕ, ◌≤◌, List, Ok, length};
+ghost use Rattle.std.specs.Prelude.{◌≡◌, ◌↔◌, ℕ, ◌≤◌, List, Ok, Err, drop, length};
 ghost use Rattle.std.specs.Str.{IsUtf8};
 ghost use Rattle.mc_base.specs.declared.span.Span.{Span};
-ghost use Rattle.mc_token.specs.Tokens.{tokens_in, tokens_of};
-ghost use Rattle.mc_token.specs.Cover.{Cover};
+ghost use Rattle.mc_token.specs.Tokens.{all_tokens, tokens_of};
+ghost use Rattle.mc_token.specs.Contents.{Says};
+ghost use Rattle.mc_token.specs.Cover.{AreTokens, StopsAt};
 ghost use Rattle.mc_token.specs.Hexadecimal.{bytes_of_digits, values_of, two_digits};
+ghost use Rattle.mc_token.specs.Lexemes.{content};
+ghost use Rattle.mc_token.specs.Strings.{IsContent, IsQuote};
 ghost use Rattle.mc_token.specs.TokenLaws.{AreInOrder, HaveUtf8Texts};
 ghost use Rattle.mc_token.specs.declared.lexeme.Token.{Token};
 
-/// The laws of tokens: those of some bytes are the one list of spans that covers all of them but the
-/// spaces, each token spelled as its kind says; those of a statement stand inside it, one behind the
-/// other; if the script is UTF-8, so is the text of each string, its escapes taken away; and the
-/// bytes of a hexadecimal literal, two digits each, have its digits, a 0 before an odd number of
-/// them.
+use crate::LexFault;
+
+/// The laws of tokens. Those of a statement, however many, are the one list of spans that covers
+/// all of it but spaces and comments, each token spelled as its kind says, before all that the
+/// script has behind it; else such a list covers it up to the byte of the fault, where nothing
+/// begins. They stand inside the statement, one behind the other. If the script is UTF-8, so is the
+/// text of each string. The text of a string is what the bytes between its quotes
+/// stand for: plain bytes for themselves, doubled quotes for one, escapes for theirs. The bytes of a
+/// hexadecimal literal, two digits each, have its digits, a 0 before an odd number of them.
 pub fn token_laws()
-    ensures cover { (place : ℕ) (bytes : List ℕ) (tokens : List Token)
-        → tokens_in place bytes ≡ Ok tokens ↔ Cover place bytes tokens }
+    ensures cover { (script : List ℕ) (statement : Span) (tokens : List Token)
+        → statement.start ≤ statement.end → statement.end ≤ length script
+        → all_tokens script statement ≡ Ok tokens
+        ↔ AreTokens statement.end statement.start (drop statement.start script) tokens }
+    ensures fault { (script : List ℕ) (statement : Span) (place : ℕ)
+        → statement.start ≤ statement.end → statement.end ≤ length script
+        → all_tokens script statement ≡ Err (LexFault.NoToken place)
+        ↔ StopsAt statement.end statement.start (drop statement.start script) place }
     ensures in_order { (script : List ℕ) (statement : Span) (tokens : List Token)
         → statement.start ≤ statement.end → statement.end ≤ length script
         → tokens_of script statement ≡ Ok tokens → AreInOrder statement.start statement.end tokens }
     ensures texts { (script : List ℕ) (statement : Span) (tokens : List Token)
         → IsUtf8 script → tokens_of script statement ≡ Ok tokens → HaveUtf8Texts tokens }
+    ensures content { (quote : ℕ) (inside text : List ℕ)
+        → IsQuote quote → IsContent quote inside
+        → Says quote inside text ↔ text ≡ content quote inside }
     ensures digits { (digits : List ℕ) → two_digits (bytes_of_digits digits) ≡ values_of digits }
 {}

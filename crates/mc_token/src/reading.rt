@@ -1,4 +1,20 @@
-ghost use Rattle.std.specs.Prelude.{◌≡◌, ◌+◌, ◌≤◌, ◌<◌, ◌++◌, ◌==◌, ◌||◌, ◌&&◌, nat_lt, map, length, slice_index, IsTrue, IfOk, OnOk};
+ghost use Rattle.std.specs.Prelude.{
+  ◌≡◌,
+  ◌+◌,
+  ◌≤◌,
+  ◌<◌,
+  ◌++◌,
+  ◌==◌,
+  ◌||◌,
+  ◌&&◌,
+  nat_lt,
+  map,
+  length,
+  slice_index,
+  IsTrue,
+  IfOk,
+  OnOk,
+};
 ghost use Rattle.std.specs.Char.{to_ascii_lowercase};
 ghost use Rattle.mc_token.specs.Bytes.{backslash};
 ghost use Rattle.mc_token.specs.Lexemes.{escaped, pair, content, inside, lexeme_of};
@@ -20,6 +36,8 @@ pub fn lexeme_of(alloc: Global, shape: Shape, bytes: &[u8]) -> Result<Lexeme, No
 {
     match shape {
         Shape::Word => Ok(Lexeme::Word(folded(alloc, bytes)?)),
+        Shape::Name => Ok(Lexeme::Name(folded(alloc, inside(1, bytes))?)),
+        Shape::Int(number) => Ok(Lexeme::Int(number)),
         Shape::Str => Ok(Lexeme::Str(content(alloc, bytes[0], inside(1, bytes))?)),
         Shape::National => Ok(Lexeme::National(content(alloc, b'\'', inside(2, bytes))?)),
         Shape::HexString => Ok(Lexeme::Hex(bytes_of_digits(alloc, inside(2, bytes))?)),

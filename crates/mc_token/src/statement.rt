@@ -56,10 +56,12 @@ pub fn next_statement(script: &[u8], from: u32) -> Option<(Span, u32)>
 #[tactic(auto, using(crate::proofs::Statements::statement_steps))]
 fn statement_start(script: &[u8], from: usize) -> Option<usize>
     ensures none { IfNone result (statements_in false from (elements (drop from script.now)) ≡ []) }
-    ensures some { IfSome result (λ start. statements_in false from (elements (drop from script.now))
+    ensures some { IfSome result (λ start.
+        statements_in false from (elements (drop from script.now))
         ≡ record { start = start; end = start + statement_len (elements (drop start script.now)) }
         ∷ statements_in true start (elements (drop start script.now))) }
-    ensures not_empty { IfSome result (λ start. 0 < statement_len (elements (drop start script.now))) }
+    ensures not_empty { IfSome result
+        (λ start. 0 < statement_len (elements (drop start script.now))) }
     ensures begins { IfSome result (λ start. from ≤ start) }
     ensures within { IfSome result (λ start. start < length script.now) }
 {

@@ -1,0 +1,21 @@
+-- What a parser asks of a token: MySQL 8.0 manual, 9.1 to 9.3.
+use Rattle.std.specs.Prelude.{◌≡◌, ◌≢◌}
+use Rattle.mc_token.specs.Keywords.{keyword_text}
+use Rattle.mc_token.specs.declared.keyword.Keyword.{Keyword as AKeyword}
+use Rattle.mc_token.specs.declared.kind.TokenKind.{TokenKind}
+use Rattle.mc_token.specs.declared.kind.TokenKind.TheVariants.{Keyword, Word, Name, Int, Str}
+use Rattle.mc_token.specs.declared.kind.TokenKind.TheVariants.{National, Hex, Sym}
+use Rattle.mc_token.specs.declared.lexeme.Lexeme.{Lexeme}
+use Rattle.mc_token.specs.declared.lexeme.Lexeme.TheVariants as lexeme
+
+-- The lexeme is of this kind: a word that a keyword is spelled as is that keyword.
+abbrev pub IsKind : TokenKind → Lexeme → Type 0
+IsKind (Keyword keyword) (lexeme.Word word) = word ≡ keyword_text keyword
+IsKind Word (lexeme.Word word) = (keyword : AKeyword) → word ≢ keyword_text keyword
+IsKind Name (lexeme.Name name) = Unit {0}
+IsKind Int (lexeme.Int number) = Unit {0}
+IsKind Str (lexeme.Str text) = Unit {0}
+IsKind National (lexeme.National text) = Unit {0}
+IsKind Hex (lexeme.Hex bytes) = Unit {0}
+IsKind (Sym symbol) (lexeme.Sym other) = symbol ≡ other
+IsKind _ _ = ⊥

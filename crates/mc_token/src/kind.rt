@@ -1,0 +1,50 @@
+ghost use Rattle.mc_token.specs.Kinds.{IsKind};
+
+use crate::keyword::keyword_named;
+use crate::{Keyword, Lexeme, Symbol};
+
+/// What a token is, without its text: what a parser looks at, told once for each token.
+#[derive(Clone, Copy, Debug, PartialEq, Eq)]
+pub enum TokenKind {
+    /// A word that the grammar asks for by name.
+    Keyword(Keyword),
+    /// Any other word.
+    Word,
+    /// A name between backquotes.
+    Name,
+    /// A whole number.
+    Int,
+    /// A string.
+    Str,
+    /// A string with `N` before it.
+    National,
+    /// A hexadecimal literal.
+    Hex,
+    /// A mark.
+    Sym(Symbol),
+}
+
+/// What a lexeme is. Its words are compared here, and nowhere behind.
+pub fn kind_of(lexeme: &Lexeme) -> TokenKind
+    ensures { IsKind result lexeme.now }
+{
+    match lexeme {
+        Lexeme::Word(word) => kind_of_word(word.as_slice()),
+        Lexeme::Name(_) => TokenKind::Name,
+        Lexeme::Int(_) => TokenKind::Int,
+        Lexeme::Str(_) => TokenKind::Str,
+        Lexeme::National(_) => TokenKind::National,
+        Lexeme::Hex(_) => TokenKind::Hex,
+        Lexeme::Sym(symbol) => TokenKind::Sym(*symbol),
+    }
+}
+
+/// What a word is.
+fn kind_of_word(word: &[u8]) -> TokenKind
+    ensures { IsKind result (Lexeme.Word word.now) }
+{
+    match keyword_named(word) {
+        Some(keyword) => TokenKind::Keyword(keyword),
+        None => TokenKind::Word,
+    }
+}
