@@ -69,6 +69,14 @@ impl<T: Drop> List<T> {
         Ok(())
     }
 
+    /// Makes room for so many more members, so that appending them moves none. The list stays.
+    pub fn reserve(&mut self, more: usize) -> Result<(), NoMemory>
+        ensures { self.new ≡ self.old }
+    {
+        self.members.reserve(more)?;
+        Ok(())
+    }
+
     /// Keeps the first `len` members, or all where there are no more.
     pub fn truncate(&mut self, len: usize)
         ensures { self.new ≡ take len self.old }

@@ -1,5 +1,7 @@
 -- Characters and their spellings in a set; the characters of a text.
-use Rattle.std.specs.Prelude.{◌≡◌, ℕ, ◌-◌, List, [], ◌∷◌, ◌++◌, Option, Some, None, zero, suc, option_and_then}
+use Rattle.std.specs.Prelude.{◌≡◌, ℕ, ◌-◌, Bool, false, List, [], ◌∷◌, ◌++◌, Option, Some, None, zero, suc, option_and_then}
+use Rattle.std.specs.Option.{option_map_or}
+use Rattle.std.specs.Str.{bytes_eq}
 use Rattle.mc_charset.specs.declared.charset.Charset.{Charset}
 use Rattle.mc_charset.specs.Rows.{spelling_in, first_in}
 use Rattle.mc_charset.specs.Tables.{rows}
@@ -31,3 +33,11 @@ chars_behind set zero (b ∷ bytes) = elim (first_in (rows set) (b ∷ bytes)) [
 -- else those before the first place where no spelling begins.
 unfoldable pub chars : Charset → List ℕ → List ℕ
 chars set text = chars_behind set 0 text
+
+-- The characters of the text spell it.
+unfoldable pub is_spelled : Charset → List ℕ → Bool
+is_spelled set text = option_map_or (bytes_eq text) (spell_all set (chars set text)) false
+
+-- Unicode's code points are the numbers below this one: Unicode Standard, 2.4.
+abbrev pub code_points : ℕ
+code_points = 0x110000

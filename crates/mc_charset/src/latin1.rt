@@ -17,6 +17,7 @@ const CODES_80_TO_9F: [u16; 32] = [
 ];
 
 /// The first character of a text in latin1: each byte is one.
+#[inline(always)]
 pub(crate) fn next(text: &[u8]) -> CharAt
     ensures { IsFound (rows Latin1) text.now result }
 {
@@ -30,6 +31,7 @@ pub(crate) fn next(text: &[u8]) -> CharAt
 }
 
 /// The code point of a byte.
+#[inline(always)]
 fn code_of(byte: u8) -> u32
     ensures { (rest : List ℕ) → first_in (rows Latin1) (byte ∷ rest) ≡ Some (result, 1) }
 {
@@ -40,6 +42,7 @@ fn code_of(byte: u8) -> u32
 }
 
 /// The spelling of a code point in latin1.
+#[inline(always)]
 pub(crate) fn spelling(code: u32) -> Option<Spelling>
     ensures { option_map bytes_of result ≡ spelling_in (rows Latin1) code }
 {
@@ -50,6 +53,7 @@ pub(crate) fn spelling(code: u32) -> Option<Spelling>
 }
 
 /// The byte from 80 to 9F that spells a code point.
+#[inline(always)]
 fn spelling_80_to_9f(code: u32) -> Option<Spelling>
     ensures { option_map bytes_of result ≡ spelling_in latin1_rows_80_to_9f code }
 {

@@ -1,8 +1,9 @@
-ghost use Rattle.mc_convert.specs.Conversion.{IsReinterpreted, unit_len};
-ghost use Rattle.std.specs.Prelude.{◌≡◌, ◌<◌, ◌-◌, ◌%◌, IfOk};
+ghost use Rattle.mc_charset.specs.Chars.{IsWellFormed};
+ghost use Rattle.mc_convert.specs.Conversion.{IsReinterpreted, taken_for, unit_len};
+ghost use Rattle.std.specs.Prelude.{◌≡◌, ◌<◌, ◌-◌, ◌%◌, IfOk, IfSome};
 
 use mc_base::{NoMemory, Text};
-use mc_charset::{Charset, is_well_formed};
+use mc_charset::{Charset, chars_law, is_well_formed};
 use std::alloc::Global;
 
 const ZEROS: [u8; 3] = [0, 0, 0];
@@ -11,6 +12,16 @@ const ZEROS: [u8; 3] = [0, 0, 0];
 /// and of 4 for utf32.
 /// `None` exactly where these are malformed. MySQL 8.0 manual, 12.10.
 pub fn reinterpret(alloc: Global, to: Charset, bytes: &[u8]) -> Result<Option<Text>, NoMemory>
+    ensures takes { IfOk result (λ answer. IsReinterpreted to bytes.now answer) }
+    ensures is { IfOk result (λ answer. answer ≡ taken_for to bytes.now) }
+    ensures well_formed { IfOk result (λ answer. IfSome answer (IsWellFormed to)) }
+{
+    chars_law();
+    taken(alloc, to, bytes)
+}
+
+/// The padded bytes, if they are a text of the set.
+fn taken(alloc: Global, to: Charset, bytes: &[u8]) -> Result<Option<Text>, NoMemory>
     ensures { IfOk result (λ answer. IsReinterpreted to bytes.now answer) }
 {
     let mut text = Text::from_slice(alloc, &ZEROS[..missing(unit(to), bytes.len())])?;
@@ -33,7 +44,7 @@ fn missing(unit: usize, len: usize) -> usize
 }
 
 /// How many bytes the shortest spellings of a set have.
-fn unit(set: Charset) -> usize
+pub(crate) fn unit(set: Charset) -> usize
     ensures is { result ≡ unit_len set }
     ensures positive { 0 < result }
     ensures small { result < 5 }
