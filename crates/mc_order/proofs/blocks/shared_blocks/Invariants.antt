@@ -5,7 +5,7 @@ abbrev pub invariant-loop-at : goal.invariant-loop-at
 invariant-loop-at l = record {
   within_first : l.at ≤ length l.a;
   within_second : l.at ≤ length l.b;
-  same : take l.at l.a ≡ take l.at l.b
+  same : take l.at l.a ≡ take l.at l.b;
 }
 
 abbrev pub decreases-loop-at : goal.decreases-loop-at
