@@ -1,5 +1,6 @@
 -- The outcome of one file: its content, or its refusal.
-use Rattle.std.specs.Prelude.{◌≡◌, ℕ, List, Option, Some, None, Result, Ok, Err, nat_lt, length, if◌then◌else◌, codes, ⊤}
+use Rattle.std.specs.Prelude.{◌≡◌, ℕ, List, Option, Some, None, Result, Ok, Err, nat_lt, length}
+use Rattle.std.specs.Prelude.{if◌then◌else◌, codes, ⊤}
 use Rattle.mc_base.specs.Faults.{Rose}
 use Rattle.mc_base.specs.declared.file.FileFault.{FileFault}
 use Rattle.mc_base.specs.declared.file.FileFault.TheVariants.{Refused, Fault, NoMemory}
@@ -25,9 +26,10 @@ content_outcome name (Some text) =
 abbrev pub file_outcome : (List ℕ → Option (List ℕ)) → List ℕ → Result (List ℕ) FileRefusal
 file_outcome files name = content_outcome name (files name)
 
--- A value, seen so, and a refusal are those of the outcome. A fault of the device and want of memory
--- take their place.
-abbrev pub HasOutcome : {T U : Type 0} → (T → U) → Result T FileFault → Result U FileRefusal → Type 0
+-- A value, seen so, and a refusal are those of the outcome. A fault of the device and want of
+-- memory take their place.
+abbrev pub HasOutcome : {T U : Type 0} → (T → U) → Result T FileFault → Result U FileRefusal
+    → Type 0
 HasOutcome seen (Ok value) outcome = outcome ≡ Ok (seen value)
 HasOutcome seen (Err (Refused refusal)) outcome = outcome ≡ Err refusal
 HasOutcome seen (Err Fault) outcome = ⊤

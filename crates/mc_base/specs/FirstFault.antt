@@ -1,5 +1,6 @@
 -- The first fault of a file that is read line by line, or record by record. What a line says is
--- judged beside the lines before it: `fault_of` gives the fault of a line behind some lines, if it has one.
+-- judged beside the lines before it: `fault_of` gives the fault of a line behind some lines, if it
+-- has one.
 use Rattle.std.specs.Prelude.{◌≡◌, ℕ, List, [], ◌∷◌, take, Option, Some, None}
 use Rattle.std.specs.List.{slice_get}
 use Rattle.std.specs.Option.{option_or}

@@ -1,4 +1,16 @@
-ghost use Rattle.std.specs.Prelude.{◌≡◌, [], ◌∷◌, ◌++◌, length, take, ◌↔◌, IsTrue, IfOk, OnOk, OnErr};
+ghost use Rattle.std.specs.Prelude.{
+  ◌≡◌,
+  [],
+  ◌∷◌,
+  ◌++◌,
+  length,
+  take,
+  ◌↔◌,
+  IsTrue,
+  IfOk,
+  OnOk,
+  OnErr,
+};
 
 use crate::NoMemory;
 use std::alloc::Global;

@@ -5,3 +5,4 @@ pub mod Start
 pub mod WellFormed
 pub mod SetNames
 pub mod CodePoints
+pub mod Firsts

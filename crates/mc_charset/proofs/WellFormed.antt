@@ -14,7 +14,7 @@ use Rattle.mc_charset.specs.declared.charset.Charset.TheVariants.{Latin1, Ascii,
 use Rattle.mc_charset.specs.declared.latin1.TheConstants.{CODES_80_TO_9F}
 use Rattle.mc_charset.specs.Rows.{Range, Row, count, sequence, has_code, spelling_in, first_in}
 use Rattle.mc_charset.specs.Tables.{rows, utf8_short_rows, utf8_long_rows, two_byte_rows, surrogate_pair_rows}
-use Rattle.mc_charset.specs.Chars.{spell, spell_all, Spells, IsWellFormed}
+use Rattle.mc_charset.specs.Chars.{spell, Spells, IsWellFormed}
 use Rattle.mc_charset.proofs.Rows.{are_filled, count_positive, and_parts, guard_cases, has_code_parts}
 use Rattle.mc_charset.proofs.ByteRows.{latin1_middle}
 use Rattle.mc_charset.proofs.Chars.{empty_spelled, found_well_formed, Spells_nil, Spells_split, Spells_cons}

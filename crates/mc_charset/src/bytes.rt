@@ -4,7 +4,7 @@ ghost use Rattle.mc_charset.specs.Rows.{spelling_in};
 ghost use Rattle.std.specs.Prelude.{◌≡◌};
 ghost use Rattle.mc_charset.specs.NextChar.{IsFound};
 ghost use Rattle.mc_charset.specs.Tables.{rows};
-ghost use Rattle.mc_charset.specs.declared.charset.Charset.TheVariants.{Latin1, Ascii, Binary};
+ghost use Rattle.mc_charset.specs.declared.charset.Charset.TheVariants.{Ascii, Binary};
 
 use crate::char_at::CharAt;
 use crate::spelling::Spelling;

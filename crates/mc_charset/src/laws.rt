@@ -32,13 +32,18 @@ ghost use Rattle.std.specs.Prelude.{
 
 /// The laws of spellings: at most one list of characters spells a text, and `chars` is that list;
 /// no spelling of a set is a proper prefix of another one of the set; joined lists spell joined
-/// texts; a text is well formed exactly where its characters spell it; each character is a code point.
+/// texts; a text is well formed exactly where its characters spell it; each character is a code
+/// point.
 pub fn chars_law()
-    ensures one_list { (set : Charset) (codes others text : List ℕ) → Spells set codes text → Spells set others text → codes ≡ others }
-    ensures decodes { (set : Charset) (codes text : List ℕ) → Spells set codes text → chars set text ≡ codes }
-    ensures encodes { (set : Charset) (text : List ℕ) → IsWellFormed set text → Spells set (chars set text) text }
+    ensures one_list { (set : Charset) (codes others text : List ℕ)
+        → Spells set codes text → Spells set others text → codes ≡ others }
+    ensures decodes { (set : Charset) (codes text : List ℕ)
+        → Spells set codes text → chars set text ≡ codes }
+    ensures encodes { (set : Charset) (text : List ℕ)
+        → IsWellFormed set text → Spells set (chars set text) text }
     ensures no_prefix { (set : Charset) (code other : ℕ) (front more : List ℕ)
-        → spell set code ≡ Some front → spell set other ≡ Some (front ++ more) → (code ≡ other) × (more ≡ []) }
+        → spell set code ≡ Some front → spell set other ≡ Some (front ++ more)
+        → (code ≡ other) × (more ≡ []) }
     ensures joins { (set : Charset) (codes more text rest : List ℕ)
         → Spells set codes text → Spells set more rest → Spells set (codes ++ more) (text ++ rest) }
     ensures fronts { (set : Charset) (codes front rest : List ℕ)
@@ -64,7 +69,8 @@ pub fn utf8_law()
 
 /// utf8mb4 has the texts of utf8mb3, and utf16 those of ucs2, with the same characters.
 pub fn wider_law()
-    ensures utf8mb4 { (codes text : List ℕ) → Spells Utf8mb3 codes text → Spells Utf8mb4 codes text }
+    ensures utf8mb4 { (codes text : List ℕ)
+        → Spells Utf8mb3 codes text → Spells Utf8mb4 codes text }
     ensures utf16 { (codes text : List ℕ) → Spells Ucs2 codes text → Spells Utf16 codes text }
 {}
 

@@ -86,7 +86,8 @@ pub fn is_unicode(set: Charset) -> bool
     }
 }
 
-/// The binary collation of a set: `binary` for binary, else the one named after the set with `_bin`.
+/// The binary collation of a set: `binary` for binary, else the one named after the set with
+/// `_bin`.
 pub fn bin_of(set: Charset) -> CollId
     ensures { slice_get built_in_names result.0 ≡ Some (bin_name set) }
 {

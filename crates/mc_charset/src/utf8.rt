@@ -3,7 +3,7 @@ ghost use Rattle.std.specs.Option.{option_map};
 ghost use Rattle.mc_charset.specs.Rows.{spelling_in};
 ghost use Rattle.mc_charset.specs.NextChar.{IsFound};
 ghost use Rattle.mc_charset.specs.Tables.{utf8_short_rows, utf8_long_rows};
-ghost use Rattle.std.specs.Prelude.{◌≡◌, ◌≤◌, ◌+◌, ◌-◌, ◌*◌, ◌++◌, ◌%◌};
+ghost use Rattle.std.specs.Prelude.{◌≡◌, ◌≤◌, ◌+◌, ◌-◌, ◌*◌, ◌++◌, ◌%◌, drop};
 
 use crate::char_at::CharAt;
 use crate::spelling::Spelling;
@@ -31,6 +31,17 @@ pub(crate) fn next_short(text: &[u8]) -> CharAt
             len: 1,
         },
         [a @ 0xC2..=0xDF, b @ 0x80..=0xBF, ..] => two(a, b),
+        _ => next_three(text),
+    }
+}
+
+/// The first character by the rows of three bytes.
+#[inline(always)]
+fn next_three(text: &[u8]) -> CharAt
+    ensures { IsFound (drop 2 utf8_short_rows) text.now result }
+{
+    match *text {
+        [] => CharAt::End,
         [a @ 0xE0, b @ 0xA0..=0xBF, c @ 0x80..=0xBF, ..] => three(a, b, c),
         [a @ 0xE1..=0xEC, b @ 0x80..=0xBF, c @ 0x80..=0xBF, ..] => three(a, b, c),
         [a @ 0xED, b @ 0x80..=0x9F, c @ 0x80..=0xBF, ..] => three(a, b, c),
@@ -53,6 +64,17 @@ fn next_long(text: &[u8]) -> CharAt
             d @ 0x80..=0xBF,
             ..
         ] => four(a, b, c, d),
+        _ => next_longer(text),
+    }
+}
+
+/// The first character by the last two rows: from 40000 on.
+#[inline(always)]
+fn next_longer(text: &[u8]) -> CharAt
+    ensures { IsFound (drop 1 utf8_long_rows) text.now result }
+{
+    match *text {
+        [] => CharAt::End,
         [
             a @ 0xF1..=0xF3,
             b @ 0x80..=0xBF,
@@ -102,7 +124,8 @@ fn four(a: u8, b: u8, c: u8, d: u8) -> CharAt
     requires second { 0x80 ≤ b }
     requires third { 0x80 ≤ c }
     requires fourth { 0x80 ≤ d }
-    ensures { result ≡ CharAt.Char ((a - 0xF0) * 262144 + (b - 0x80) * 4096 + (c - 0x80) * 64 + (d - 0x80)) 4 }
+    ensures { result ≡ CharAt.Char ((a - 0xF0) * 262144 + (b - 0x80) * 4096 + (c - 0x80) * 64 +
+        (d - 0x80)) 4 }
 {
     CharAt::Char {
         code: u32::from(a - 0xF0) * 262144

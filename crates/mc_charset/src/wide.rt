@@ -2,7 +2,12 @@ ghost use Rattle.mc_charset.specs.PutChar.{bytes_of};
 ghost use Rattle.std.specs.Option.{option_map};
 ghost use Rattle.mc_charset.specs.Rows.{spelling_in, sequence};
 ghost use Rattle.mc_charset.specs.NextChar.{IsFound};
-ghost use Rattle.mc_charset.specs.Tables.{from_to, two_byte_rows, surrogate_pair_rows, four_byte_rows};
+ghost use Rattle.mc_charset.specs.Tables.{
+  from_to,
+  two_byte_rows,
+  surrogate_pair_rows,
+  four_byte_rows,
+};
 ghost use Rattle.std.specs.Prelude.{◌≡◌, ◌<◌, ◌+◌, ◌*◌, ◌++◌, ◌%◌, ◌∷◌, []};
 
 use crate::char_at::CharAt;
@@ -118,7 +123,8 @@ pub(crate) fn spelling_utf16(code: u32) -> Option<Spelling>
 #[inline(always)]
 fn surrogates(place: u32) -> Spelling
     requires { place < 0x100000 }
-    ensures { bytes_of result ≡ sequence (from_to 0xD8 0xDB ∷ from_to 0x00 0xFF ∷ from_to 0xDC 0xDF ∷ from_to 0x00 0xFF ∷ []) place }
+    ensures { bytes_of result ≡ sequence (from_to 0xD8 0xDB ∷ from_to 0x00 0xFF ∷ from_to 0xDC 0xDF
+        ∷ from_to 0x00 0xFF ∷ []) place }
 {
     Spelling::Four([
         0xD8 + (place / 0x40000) as u8,

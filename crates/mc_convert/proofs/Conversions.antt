@@ -1,17 +1,13 @@
 -- Converting character by character, and texts that keep their bytes.
-use Rattle.std.proofs.Common.{◌≡◌, ℕ, ◌+◌, ◌-◌, ◌<◌, ◌⊎◌, Bool, true, false, not, cond, ltb, ◌&&◌, ◌||◌, List, [], ◌∷◌, ◌++◌, Option, Some, None, length, take, drop, get_or, map, append_assoc, append-nil, refl, sym, ap, ◌∙◌, subst, arith, inl, inr, zero, suc, ◌≤◌, below_more}
-use Rattle.std.proofs.lemmas.List.{length-drop, drop-drop}
+use Rattle.std.proofs.Common.{◌≡◌, ℕ, ◌<◌, ◌⊎◌, Bool, true, false, not, cond, ltb, ◌&&◌, ◌||◌, List, [], ◌∷◌, ◌++◌, Option, Some, None, length, drop, get_or, map, refl, sym, ap, ◌∙◌, subst, arith, inl, inr, zero, suc, ◌≤◌}
+use Rattle.std.proofs.lemmas.List.{length-drop}
 use Rattle.std.specs.Bool.{MatchBool, OnTrue}
 use Rattle.std.specs.Option.{is_some, option_map, option_and_then}
 use Rattle.std.proofs.lemmas.Bool.Decides.{nat_tests}
 use Rattle.mc_charset.specs.declared.charset.Charset.{Charset}
-use Rattle.mc_charset.specs.declared.char_at.CharAt.{CharAt}
-use Rattle.mc_charset.specs.declared.char_at.CharAt.TheVariants.{End, Bad}
 use Rattle.mc_charset.specs.Chars.{spell, spell_all, chars, Spells}
-use Rattle.mc_charset.specs.NextChar.{IsFirst, HeadsChars}
 use Rattle.mc_convert.specs.Conversion.{is_binary, fits, stand_in, IsConverted, KeepsBytes, HasSpellings}
 use Rattle.mc_convert.specs.Plain.{IsPlain}
-use Rattle.mc_convert.proofs.Classes.{rest_behind, nothing}
 
 -- What was written, continued by the rest's conversion, is the whole text's.
 abbrev pub Continues : Charset → Charset → List ℕ → List ℕ → List ℕ → Type 0

@@ -4,14 +4,14 @@ use Rattle.std.specs.Option.{option_map, option_or}
 use Rattle.std.specs.Prelude.{IfSome, MatchOption}
 use Rattle.std.proofs.lemmas.Bool.{cases_lt}
 use Rattle.std.proofs.lemmas.Grind.{common_steps}
-use Rattle.std.proofs.lemmas.List.{length-drop, drop-drop, length-append, take-append-drop}
+use Rattle.std.proofs.lemmas.List.{length-drop, drop-drop, take-append-drop}
 use Rattle.std.proofs.Math.Seq.{drop-append_seam}
 use Rattle.mc_charset.specs.declared.charset.Charset.{Charset}
 use Rattle.mc_charset.specs.Chars.{spell, spell_all, chars, Spells}
 use Rattle.mc_charset.specs.NextChar.{IsFirst}
-use Rattle.mc_convert.specs.Conversion.{fits, stand_in, AllFit, IsFirstUnfit}
+use Rattle.mc_convert.specs.Conversion.{fits, stand_in, IsFirstUnfit}
 use Rattle.mc_convert.specs.Plain.{IsPlain}
-use Rattle.mc_convert.specs.Steps.{FitOrLost, IsTaken, IsLostPlace}
+use Rattle.mc_convert.specs.Steps.{FitOrLost, TakesFront, IsLostPlace}
 use Rattle.mc_convert.proofs.Classes.{rest_behind}
 use Rattle.mc_convert.proofs.Conversions.{Continues, Spells_first, Spells_none, put_parts, stand_ins, all_fit, at_place, within_at, none_left}
 
@@ -25,11 +25,11 @@ one_char : (from to : Charset) (code : ℕ) (fit : Bool) → fit ≡ fits from t
 one_char from to code true e = λ k h. only_one from to code k e h
 one_char from to code false e = (code, refl, sym e)
 
-pub IsTaken-char : (from to : Charset) (text old new : List ℕ) (code len : ℕ) (fit : Bool)
+pub TakesFront-char : (from to : Charset) (text old new : List ℕ) (code len : ℕ) (fit : Bool)
     → IsFirst from text code len → chars from text ≡ code ∷ chars from (drop len text)
     → option_map (λ front. old ++ front) (spell to (stand_in from to code)) ≡ Some new
-    → fit ≡ fits from to code → IsTaken from to text old new len 1 fit
-IsTaken-char from to text old new code len fit i e h f =
+    → fit ≡ fits from to code → TakesFront from to text old new len 1 fit
+TakesFront-char from to text old new code len fit i e h f =
     let p = put_parts (spell to (stand_in from to code)) old new h in
     record {
       codes = code ∷ [];
@@ -46,11 +46,11 @@ IsTaken-char from to text old new code len fit i e h f =
 
 -- ASCII that both sets spell by its bytes
 
-pub IsTaken-plain : (from to : Charset) (text old new front : List ℕ) (len : ℕ)
+pub TakesFront-plain : (from to : Charset) (text old new front : List ℕ) (len : ℕ)
     → ((codes front rest : List ℕ) → Spells from codes front → chars from (front ++ rest) ≡ codes ++ chars from rest)
     → front ≡ take len text → 0 < len → len ≤ length text → length front ≡ len → IsPlain from front → IsPlain to front
-    → new ≡ old ++ front → IsTaken from to text old new len len true
-IsTaken-plain from to text old new front len fronts e positive within long p q w =
+    → new ≡ old ++ front → TakesFront from to text old new len len true
+TakesFront-plain from to text old new front len fronts e positive within long p q w =
     let whole : text ≡ front ++ drop len text = sym (take-append-drop len text) ∙ ap (λ x. x ++ drop len text) (sym e) in
     record {
       codes = front;
@@ -134,7 +134,7 @@ map-append f (x ∷ xs) ys = ap (λ zs. f x ∷ zs) (map-append f xs ys)
 -- What one step takes is converted, and the rest is left.
 pub Reached_step : (from to : Charset) (text rest done new : List ℕ) (place len count : ℕ) (lost : Option ℕ) (fit : Bool)
     → ((codes more front behind : List ℕ) → Spells to codes front → Spells to more behind → Spells to (codes ++ more) (front ++ behind))
-    → Reached from to text rest done place lost → IsTaken from to rest done new len count fit
+    → Reached from to text rest done place lost → TakesFront from to rest done new len count fit
     → Reached from to text (take (length rest - len) (drop len rest)) new (place + count) (option_or lost (cond fit None (Some place)))
 Reached_step from to text rest done new place len count lost fit joins r t =
     let behind = rest_behind len rest in

@@ -1,5 +1,7 @@
 -- Conversion between character sets: MySQL 8.0 manual, 10.10 and 12.10.
-use Rattle.std.specs.Prelude.{◌≡◌, ℕ, ◌-◌, ◌%◌, ◌<◌, Bool, true, false, not, ◌&&◌, ◌||◌, List, [], ◌∷◌, ◌++◌, Option, Some, None, length, take, map, slice_index, nat_lt, unwrap_or, MatchBool, if◌then◌else◌}
+use Rattle.std.specs.Prelude.{◌≡◌, ℕ, ◌-◌, ◌%◌, ◌<◌, Bool, true, false, not, ◌&&◌, ◌||◌, List, []}
+use Rattle.std.specs.Prelude.{◌∷◌, ◌++◌, Option, Some, None, length, take, map, slice_index, nat_lt}
+use Rattle.std.specs.Prelude.{unwrap_or, MatchBool, if◌then◌else◌}
 use Rattle.std.specs.List.{flat_map}
 use Rattle.std.specs.Option.{is_some}
 use Rattle.mc_charset.specs.declared.charset.Charset.{Charset}
@@ -77,10 +79,14 @@ abbrev pub padded : Charset → List ℕ → List ℕ
 padded to bytes =
     take ((unit_len to - length bytes % unit_len to) % unit_len to) (0 ∷ 0 ∷ 0 ∷ []) ++ bytes
 
+-- The text, or nothing exactly where it is malformed.
+abbrev pub IsTaken : Charset → List ℕ → Option (List ℕ) → Type 0
+IsTaken to text None = IsWellFormed to text → ⊥
+IsTaken to text (Some taken) = (taken ≡ text) × IsWellFormed to text
+
 -- The padded bytes, or nothing exactly where they are malformed.
 abbrev pub IsReinterpreted : Charset → List ℕ → Option (List ℕ) → Type 0
-IsReinterpreted to bytes None = IsWellFormed to (padded to bytes) → ⊥
-IsReinterpreted to bytes (Some text) = (text ≡ padded to bytes) × IsWellFormed to (padded to bytes)
+IsReinterpreted to bytes answer = IsTaken to (padded to bytes) answer
 
 -- What bytes are taken for, as a function: the padded bytes, where they are a text of the set.
 unfoldable pub taken_for : Charset → List ℕ → Option (List ℕ)

@@ -1,5 +1,7 @@
 -- One step of a conversion that goes over a text from its front.
-use Rattle.std.specs.Prelude.{◌≡◌, ◌<◌, ◌≤◌, ℕ, Bool, true, false, List, [], ◌∷◌, ◌++◌, Option, Some, None, length, drop, map, slice_index, MatchOption, Result, Ok, Err, ⊤}
+use Rattle.std.specs.Prelude.{◌≡◌, ◌<◌, ◌≤◌, ℕ, Bool, true, false, List, [], ◌∷◌, ◌++◌, Option}
+use Rattle.std.specs.Prelude.{length, drop, map, slice_index, MatchOption, Result, Ok}
+use Rattle.std.specs.Prelude.{Err, ⊤}
 use Rattle.mc_charset.specs.declared.charset.Charset.{Charset}
 use Rattle.mc_charset.specs.Chars.{chars, Spells}
 use Rattle.mc_base.specs.declared.no_memory.NoMemory.{NoMemory}
@@ -14,7 +16,8 @@ FitOrLost from to codes true =
 FitOrLost from to codes false = (code : ℕ) × (codes ≡ code ∷ []) × (fits from to code ≡ false)
 
 -- The first `count` characters of a text, in its first `len` bytes, were converted behind `old`.
-pub record IsTaken (from to : Charset) (text old new : List ℕ) (len count : ℕ) (fit : Bool) : Type 0 where
+pub record TakesFront (from to : Charset) (text old new : List ℕ) (len count : ℕ)
+    (fit : Bool) : Type 0 where
   pub codes : List ℕ
   pub piece : List ℕ
   pub counted : count ≡ length codes
@@ -28,7 +31,7 @@ pub record IsTaken (from to : Charset) (text old new : List ℕ) (len count : �
 
 -- A step took this from the front of the text, or found no character there.
 abbrev pub Takes : Charset → Charset → List ℕ → List ℕ → List ℕ → Result Taken NoMemory → Type 0
-Takes from to text old new (Ok (Front count len fit)) = IsTaken from to text old new len count fit
+Takes from to text old new (Ok (Front count len fit)) = TakesFront from to text old new len count fit
 Takes from to text old new (Ok Nothing) = (chars from text ≡ []) × (new ≡ old)
 Takes from to text old new (Err lack) = ⊤
 

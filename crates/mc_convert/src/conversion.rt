@@ -11,7 +11,18 @@ ghost use Rattle.mc_convert.specs.Conversion.{
 };
 ghost use Rattle.mc_convert.specs.Steps.{IsLostPlace};
 ghost use Rattle.std.specs.Bool.{OnTrue};
-ghost use Rattle.std.specs.Prelude.{◌≡◌, ◌<◌, [], IfOk, IfSome, OnOk, MatchOption, length, map, false};
+ghost use Rattle.std.specs.Prelude.{
+  ◌≡◌,
+  ◌<◌,
+  [],
+  IfOk,
+  IfSome,
+  OnOk,
+  MatchOption,
+  length,
+  map,
+  false,
+};
 
 use crate::padding::unit;
 use crate::plain::are_plain;
@@ -105,7 +116,8 @@ fn has_spellings(to: Charset, from: Charset) -> bool
 /// Converts each character into the empty text, for which room is made once.
 fn fill(from: Charset, to: Charset, text: &[u8], out: &mut Text) -> Result<Option<usize>, NoMemory>
     requires { out.old ≡ [] }
-    ensures spells { OnOk result (Spells to (map (stand_in from to) (chars from text.now)) out.new) }
+    ensures spells { OnOk result (Spells to
+        (map (stand_in from to) (chars from text.now)) out.new) }
     ensures lost { IfOk result (λ lost. IsLostPlace from to text.now lost) }
     ensures within { IfOk result (λ lost. IfSome lost (λ place. place < length text.now)) }
 {
