@@ -87,12 +87,6 @@ by_one_byte Utf16 e = absurd cc
 by_one_byte Utf32 e = absurd cc
 by_one_byte Binary e = absurd cc
 
--- No spelling of the set is a proper prefix of another one.
-abbrev pub HasNoPrefix : Charset → Type 0
-HasNoPrefix set =
-    (code other : ℕ) (front more : List ℕ) → spell set code ≡ Some front →
-    spell set other ≡ Some (front ++ more) → (code ≡ other) × (more ≡ [])
-
 joined : (front rest : Option (List ℕ)) (a b text : List ℕ) → front ≡ Some a → rest ≡ Some b →
     option_and_then (λ f. option_and_then (λ r. Some (f ++ r)) rest) front ≡ Some text →
     text ≡ a ++ b
@@ -169,27 +163,9 @@ compare_is set entries pad space a b on_bytes decodes ha hb =
           decodes hb,
     ) refl
 
--- A character that begins one byte is spelled by it.
-pub spelled_by : (set : Charset) (byte found code len : ℕ) →
-    IsFirst set (byte ∷ []) found len → found ≡ code → spell set code ≡ Some (byte ∷ [])
-spelled_by set byte found code len h e =
-    let one : len ≡ 1 = let p = h.positive in let w = h.within in omega arith in
-    ap (spell set) (sym e) ∙ h.spelled ∙ ap (λ n. Some (take n (byte ∷ []))) one
-
--- And is the one that it spells.
-pub found_is : (set : Charset) (byte found code len : ℕ) → HasNoPrefix set →
-    IsFirst set (byte ∷ []) found len → spell set code ≡ Some (byte ∷ []) → found ≡ code
-found_is set byte found code len law h e =
-    (law found code (byte ∷ []) [] (spelled_by set byte found found len h refl) e).0
-
--- The byte of a character is not among those that don't spell it.
-pub byte_behind : (set : Charset) (code byte : ℕ) → is_byte_set set ≡ true → IsCharOf set code →
-    ((b : ℕ) → b < byte → spell set code ≡ Some (b ∷ []) → ⊥) →
-    (spell set code ≡ Some (byte ∷ []) → ⊥) → byte < 255
-byte_behind set code byte on_bytes is none other =
+-- In latin1 and ascii one byte spells a character.
+pub has_byte : (set : Charset) (code : ℕ) → is_byte_set set ≡ true → IsCharOf set code →
+    (byte : ℕ) × (spell set code ≡ Some (byte ∷ []))
+has_byte set code on_bytes is =
     let h = one_byte set code is.0 (by_one_byte set on_bytes) is.1 in
-    let spelled : spell set code ≡ Some (h.0 ∷ []) = is.1 ∙ ap (λ t. Some t) h.1 in
-    let l = h.2 in
-    ⊎_elim (λ same. absurd (other (spelled ∙ ap (λ b. Some (b ∷ [])) same)))
-    (⊎_elim (λ less. absurd (none h.0 less spelled)) (λ greater. omega arith))
-    (cases_order h.0 byte)
+    (h.0, is.1 ∙ ap (λ t. Some t) h.1)
