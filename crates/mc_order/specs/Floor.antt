@@ -2,7 +2,7 @@
 use Rattle.std.specs.Prelude.{ℕ, zero, suc, Bool, true, ◌&&◌, ◌||◌, not, List, [], ◌∷◌, if◌then◌else◌}
 use Rattle.std.specs.Option.{is_some}
 use Rattle.mc_charset.specs.declared.charset.Charset.{Charset}
-use Rattle.mc_charset.specs.Chars.{spell}
+use Rattle.mc_charset.specs.Chars.{spell, code_points}
 use Rattle.mc_order.specs.Meaning.{Meaning}
 use Rattle.mc_order.specs.Tails.{has_members}
 
@@ -10,10 +10,6 @@ use Rattle.mc_order.specs.Tails.{has_members}
 unfoldable pub each_below : ℕ → (ℕ → Bool) → Bool
 each_below zero test = true
 each_below (suc n) test = test n && each_below n test
-
--- One past the greatest code point.
-abbrev pub code_points : ℕ
-code_points = 0x110000
 
 -- The code point is no character of the set, or has a first weight.
 abbrev pub weighs_if_char : Charset → (List ℕ → List ℕ) → ℕ → Bool

@@ -6,11 +6,11 @@ use Rattle.std.proofs.lemmas.Bool.Decides.{nat_tests}
 use Rattle.std.proofs.lemmas.List.Elements.{All-nil, All-cons, All-append}
 use Rattle.mc_charset.specs.declared.charset.Charset.TheVariants.{Binary}
 use Rattle.mc_charset.specs.Chars.{spell, spell_all}
+use Rattle.mc_charset.proofs.CodePoints.{spelled_code_point}
 use Rattle.mc_order.specs.Order.{list_order, order_to_end}
 use Rattle.mc_order.specs.Meaning.{flat_list, IsHead, IsSafe, AreCharsOf}
 use Rattle.mc_order.specs.Laws.{IsWeight, IsCut, KeepsSettings, KeepsContractions, KeepsTails, IsLawful}
 use Rattle.mc_order.specs.Characters.{AreCharsOf-parts}
-use Rattle.mc_order.specs.Spelling.{code_below}
 use Rattle.mc_order.specs.Tails.{insert_list, ascending, fronts, tails_of}
 use Rattle.mc_order.specs.TailsLaw.{KeepsTails-from}
 use Rattle.mc_order.specs.Toy.{folded, capital_weights, begins_dzs, dzs_weights, toy_list, toy_meaning}
@@ -102,7 +102,7 @@ bounds (suc skipped) level (code ∷ codes) chars =
     bounds skipped level codes (AreCharsOf-parts Binary code codes chars).1
 bounds zero level (code ∷ codes) chars =
     let parts = AreCharsOf-parts Binary code codes chars in
-    let below = code_below Binary code parts.0.0 parts.0.1 in
+    let below = spelled_code_point Binary code parts.0.0 parts.0.1 in
     at_level (begins_dzs (code ∷ codes)) (dzs_weights level ++ toy_list 2 level codes)
     (capital_weights level (folded code) ++ toy_list 0 level codes)
     (All-append (IsWeight toy_meaning) (dzs_weights level) (toy_list 2 level codes)

@@ -13,6 +13,7 @@
 
 mod bin;
 mod bin_number;
+mod blocks;
 mod book;
 mod char_weights;
 mod collation;
@@ -28,6 +29,7 @@ mod toy;
 mod toy_weights;
 
 pub use bin::BinCollation;
+pub use blocks::shared_bytes;
 pub use book::Book;
 pub use char_weights::{CharWeight, compare_chars, put_chars};
 pub use collation::{Collation, characters_laws, collation_laws};

@@ -2,6 +2,7 @@
 use Rattle.std.specs.Prelude.{◌≡◌, ℕ, ⊤, List, [], ◌∷◌, Option, Some, None, is_none, option_map, Result, Ok, Err, map, position}
 use Rattle.std.specs.List.{range_with_len}
 use Rattle.std.specs.Option.{option_or, option_map_or}
+use Rattle.mc_base.specs.FirstFault.{first_fault}
 use Rattle.mc_base.specs.Lines.{lines_of}
 use Rattle.mc_table8.specs.GeneralFile.{weight_by}
 use Rattle.mc_table8.specs.LineFaults.{said_by, fault_of}
@@ -10,12 +11,6 @@ use Rattle.mc_table8.specs.declared.fault.TableFault.{TableFault}
 use Rattle.mc_table8.specs.declared.fault.TableFault.TheVariants.{BadLine, Repeated, Missing, NoMemory}
 use Rattle.mc_table8.specs.declared.format.Format.TheVariants.{Bytes, Codes}
 use Rattle.mc_table8.specs.declared.weight_line.WeightLine.{WeightLine}
-
--- the first fault of lines, each of them judged beside the lines before it
-abbrev pub first_fault : {L F : Type 0} → (List L → L → Option F) → List L → Option F
-first_fault fault_of [] = None
-first_fault fault_of (line ∷ lines) =
-    option_or (fault_of [] line) (first_fault (λ before. fault_of (line ∷ before)) lines)
 
 -- the least byte without weights, if there is one
 unfoldable pub least_without : List WeightLine → Option ℕ
