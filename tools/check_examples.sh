@@ -1,9 +1,12 @@
 #!/bin/bash
-# Runs each folder of examples/ through ./mycoll and compares what it prints and its status.
+# Runs each folder of examples/ through ./mycoll and compares what it prints and its status; then
+# the words that only the script ./mycoll knows.
 #
 # A folder holds `words` (the words of the command, one a line), `expected` (what is printed) and,
 # where it isn't 0, `status`. The last line counts: N passed, M failed.
 top=$(cd "$(dirname "$0")/.." && pwd)
+room=$(mktemp -d)
+trap 'rm -rf "$room"' EXIT
 passed=0
 failed=0
 
@@ -16,24 +19,57 @@ check() { # a name, and whether it held
     fi
 }
 
+run() { # a folder and words: what ./mycoll prints there, says beside it, and its status
+    (cd "$1" && shift && "$top/mycoll" "$@" >"$room/printed" 2>"$room/said")
+    status=$?
+    cat "$room/said" >&2
+}
+
+expect() { # a name, what is printed and the status wanted; then as `run`
+    run "${@:4}"
+    [ "$(cat "$room/printed")" = "$2" ]
+    check "$1: what is printed" $?
+    [ "$status" = "$3" ]
+    check "$1: the status is $status, wanted $3" $?
+}
+
+# README's first command. A run that builds the program tells each crate.
+expect "README: ./mycoll -e" "'a' = 'a  '"$'\n1' 0 "$top" -e "SELECT 'a' = 'a  '"
+if grep -q 'proving and building' "$room/said"; then
+    grep -qE '^mycoll: 1 of [0-9]+: mc_[a-z0-9]+, [0-9]+ s$' "$room/said" &&
+        grep -qE '^mycoll: ([0-9]+) of \1: mycoll, [0-9]+ s$' "$room/said"
+    check "./mycoll tells each crate that it proves" $?
+fi
+
 for folder in "$top"/examples/*/; do
     name=$(basename "$folder")
     mapfile -t words <"$folder/words"
     wanted_status=0
     [ -f "$folder/status" ] && wanted_status=$(cat "$folder/status")
-    printed=$(mktemp)
-    (cd "$folder" && "$top/mycoll" "${words[@]}" >"$printed")
-    status=$?
-    cmp -s "$printed" "$folder/expected"
+    run "$folder" "${words[@]}"
+    cmp -s "$room/printed" "$folder/expected"
     check "examples/$name: what is printed" $?
     [ "$status" = "$wanted_status" ]
     check "examples/$name: the status is $status, wanted $wanted_status" $?
-    rm -f "$printed"
 done
 
-# README's first command, from the top of the repository.
-(cd "$top" && ./mycoll examples/first/s.sql) | cmp -s - "$top/examples/first/expected"
-check "README: ./mycoll examples/first/s.sql" $?
+answer="'ü' = 'ue' COLLATE latin1_german2_ci"
+expect "./mycoll CATALOG -e" "$answer"$'\n1' 0 "$top/examples/german" cat.txt -e "SELECT $answer"
+expect "-e without UTF-8" "refused /dev/stdin NotUtf8 8" 3 "$top" -e $'SELECT \'\xFF\''
+[ "$(cat "$room/said")" = "mycoll: /dev/stdin holds the statements behind -e" ]
+check "-e without UTF-8: what /dev/stdin is" $?
+expect "-e with an absent catalog" "refused absent.txt Absent 0" 3 "$top" absent.txt -e 'SELECT 1'
+[ ! -s "$room/said" ]
+check "-e with an absent catalog: nothing is said beside it" $?
+
+expect "./mycoll --help" "$("$top/mycoll" --help)" 0 "$top" --help
+grep -q "mycoll CATALOG -e 'STATEMENTS'" "$room/printed"
+check "./mycoll --help: its forms" $?
+run "$top" --version
+grep -qE '^mycoll, commit .+, proved by rattle-kit-' "$room/printed"
+check "./mycoll --version" $?
+usage='usage: mycoll [CATALOG] SCRIPT | --make N'
+expect "other words are the program's" "$usage" 2 "$top" --help --version -e
 
 echo "$passed passed, $failed failed"
 [ "$failed" = 0 ]

@@ -1,4 +1,6 @@
-ghost use Rattle.std.specs.Prelude.{◌≡◌, ◌<◌, ◌^◌, [], ◌∷◌, ◌++◌, length, IfSome, IfOk, IfErr, OnOk};
+ghost use Rattle.std.specs.Prelude.{◌≡◌, ◌<◌, ◌^◌, [], ◌∷◌, ◌++◌, length, false, IfSome, IfOk, IfErr, OnOk};
+ghost use Rattle.std.specs.List.{list_any};
+ghost use Rattle.std.specs.Str.{bytes_eq};
 ghost use Rattle.std.specs.Option.{option_and_then, option_to_list};
 ghost use Rattle.mc_catalog.specs.Progress.{nothing_said, tables_of, declared_of, id_of, with_column, with_index, with_entry, with_line, catalog_of};
 ghost use Rattle.mc_catalog.specs.Lawful.{IsLawful};
@@ -132,6 +134,33 @@ impl CatalogBuilder {
         }) }
         ensures err { IfErr result (λ fault. IsCausedBy fault (first_of (collation_tests self.old.collations name set kind))) }
     {
+        match self.set_and_kind(name.as_slice(), set, kind) {
+            Ok((charset, kind)) => {
+                let declared = CollDecl {
+                    name,
+                    charset,
+                    kind,
+                    file,
+                    rules,
+                };
+                self.collations.push(alloc, declared)?;
+                Ok(())
+            }
+            Err(fault) => Err(fault),
+        }
+    }
+
+    /// The set and the kind of a collation of this name, where one can be added.
+    fn set_and_kind(
+        &self,
+        name: &[u8],
+        set: Option<Charset>,
+        kind: Option<Kind>,
+    ) -> Result<(Charset, Kind), CatalogFaultKind>
+        ensures ok { OnOk result (first_of (collation_tests self.now.collations name.now set kind) ≡ None) }
+        ensures value { IfOk result (λ known. (set ≡ Some known.0) × (kind ≡ Some known.1)) }
+        ensures err { IfErr result (λ fault. IsCausedBy fault (first_of (collation_tests self.now.collations name.now set kind))) }
+    {
         let Some(charset) = set else {
             return Err(CatalogFaultKind::UnknownCharset);
         };
@@ -141,21 +170,13 @@ impl CatalogBuilder {
         if !kind.suits(charset) {
             return Err(CatalogFaultKind::WrongCharset);
         }
-        if self.collations.has(name.as_slice()) {
+        if self.collations.has(name) {
             return Err(CatalogFaultKind::Repeated);
         }
         if self.collations.as_slice().len() >= COLLATIONS {
             return Err(CatalogFaultKind::TooMany);
         }
-        let declared = CollDecl {
-            name,
-            charset,
-            kind,
-            file,
-            rules,
-        };
-        self.collations.push(alloc, declared)?;
-        Ok(())
+        Ok((charset, kind))
     }
 
     /// Sets the connection collation.
@@ -191,15 +212,40 @@ impl CatalogBuilder {
         }) }
         ensures err { IfErr result (λ fault. IsCausedBy fault (first_of (table_tests (tables_of self.old) name))) }
     {
+        match self.begin_table(alloc, number, name.as_slice()) {
+            Ok(()) => {
+                self.last = Some(OpenTable::new(alloc, name, file));
+                Ok(())
+            }
+            Err(fault) => Err(fault),
+        }
+    }
+
+    /// Ends the last table, and notes the line of the next one, where one of this name can be added.
+    fn begin_table(
+        &mut self,
+        alloc: Global,
+        number: u32,
+        name: &[u8],
+    ) -> Result<(), CatalogFaultKind>
+        ensures ok { OnOk result (first_of (table_tests (tables_of self.old) name.now) ≡ None) }
+        ensures begun { OnOk result (self.new ≡ record self.old {
+          earlier = tables_of self.old;
+          last = None;
+          table_lines = self.old.table_lines ++ number ∷ [];
+        }) }
+        ensures lined { OnOk result (length self.new.earlier < length self.new.table_lines) }
+        ensures apart { OnOk result (list_any (λ table. bytes_eq table.name name.now) self.new.earlier ≡ false) }
+        ensures err { IfErr result (λ fault. IsCausedBy fault (first_of (table_tests (tables_of self.old) name.now))) }
+    {
         self.close_table(alloc)?;
-        if self.earlier.has(name.as_slice()) {
+        if self.earlier.has(name) {
             return Err(CatalogFaultKind::Repeated);
         }
         if self.earlier.as_slice().len() >= TABLES {
             return Err(CatalogFaultKind::TooMany);
         }
         self.table_lines.push(number)?;
-        self.last = Some(OpenTable::new(alloc, name, file));
         Ok(())
     }
 
@@ -258,35 +304,32 @@ impl CatalogBuilder {
         table.add_index(alloc, name, column, prefix)
     }
 
-    /// The catalog of all that was said, or the line of the first table without a column.
-    pub(crate) fn finish(mut self, alloc: Global) -> Result<Catalog, CatalogFault>
-        ensures ok { IfOk result (λ catalog. bare_place (tables_of self) ≡ None) }
-        ensures value { IfOk result (λ catalog. catalog ≡ catalog_of self) }
-        ensures err { IfErr result (λ fault. IsEndFault self fault.kind fault.line) }
+    /// Ends the last table, or tells the line of the first table without a column.
+    pub(crate) fn end(&mut self, alloc: Global) -> Result<(), CatalogFault>
+        ensures ok { OnOk result (bare_place (tables_of self.old) ≡ None) }
+        ensures ended { OnOk result (self.new ≡ record self.old { earlier = tables_of self.old; last = None }) }
+        ensures err { IfErr result (λ fault. IsEndFault self.old fault.kind fault.line) }
     {
         self.close_table(alloc)?;
-        if let Some(place) = bare_place(self.earlier.as_slice()) {
-            return Err(CatalogFault {
+        match bare_place(self.earlier.as_slice()) {
+            Some(place) => Err(CatalogFault {
                 kind: CatalogFaultKind::NoColumn,
                 line: self.table_lines.as_slice()[place],
-            });
+            }),
+            None => Ok(()),
         }
-        let connection = match self.connection {
-            Some(id) => id,
-            None => CollId(4),
-        };
-        let CatalogBuilder {
-            collations,
-            earlier,
-            last: _,
-            connection: _,
-            table_lines: _,
-        } = self;
-        Ok(Catalog {
-            collations: collations.into_list(),
-            tables: earlier.into_list(),
-            connection,
-        })
+    }
+
+    /// The catalog of all that was said, its last table ended.
+    pub(crate) fn into_catalog(self) -> Catalog
+        requires { self.last ≡ None }
+        ensures { result ≡ catalog_of self }
+    {
+        Catalog {
+            collations: self.collations.into_list(),
+            tables: self.earlier.into_list(),
+            connection: self.connection.unwrap_or(CollId(4)),
+        }
     }
 }
 

@@ -1,8 +1,9 @@
 ghost use Rattle.std.specs.Prelude.{◌≡◌, IfOk, IfSome, IsTrue, option_map};
 ghost use Rattle.std.specs.List.{list_all};
+ghost use Rattle.std.specs.Option.{option_and_then};
 ghost use Rattle.std.specs.Char.{is_ascii};
 ghost use Rattle.mc_base.specs.Fields.{fields_of};
-ghost use Rattle.mc_catalog.specs.Words.{length_of};
+ghost use Rattle.mc_catalog.specs.Words.{name_of, set_of, length_of};
 ghost use Rattle.mc_catalog.specs.Formed.{IsFormed, IsFormedColumn};
 ghost use Rattle.mc_catalog.specs.Entries.{may_have_rules, rules_part, collation_entry, connection_entry, table_entry, whole_form, binary_form, text_form, column_form, column_entry, prefix_part, index_entry, entry_in, entry_of};
 
@@ -74,7 +75,23 @@ fn collation_entry(alloc: Global, body: &[u8]) -> Result<Option<Entry>, NoMemory
     let Some((file, rest)) = next_field(rest) else {
         return Ok(None);
     };
-    let kind = read_kind(kind);
+    declared_entry(alloc, name, set, read_kind(kind), file, rest)
+}
+
+/// The entry of a collation's fields, and of those behind its file.
+fn declared_entry(
+    alloc: Global,
+    name: &[u8],
+    set: &[u8],
+    kind: Option<Kind>,
+    file: &[u8],
+    rest: &[u8],
+) -> Result<Option<Entry>, NoMemory>
+    ensures value { IfOk result (λ entry. entry ≡ option_and_then
+        (λ rules. option_map (λ name. Entry.Collation name (set_of set.now) kind file.now rules) (name_of name.now))
+        (rules_part kind (fields_of rest.now))) }
+    ensures formed { IfOk result (λ entry. IfSome entry IsFormed) }
+{
     let Some(rules) = rules_part(alloc, kind, rest)? else {
         return Ok(None);
     };

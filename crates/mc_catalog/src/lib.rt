@@ -16,10 +16,6 @@ mod names;
 mod open_table;
 mod plain;
 mod reader;
-#[cfg(test)]
-mod reader_tests;
-#[cfg(test)]
-mod tests;
 mod words;
 
 pub use catalog::{Catalog, CollDecl, ColumnDecl, ColumnType, IndexDecl, Kind, TableDecl};

@@ -54,10 +54,10 @@ impl<T: Titled> Named<T> {
         ensures { IfOk result (λ named. named ≡ members) }
     {
         let mut names = Names::new(alloc);
-        for member in members.as_slice() {
-            names.add(alloc, member.title())?;
+        match add_titles(alloc, &mut names, members.as_slice()) {
+            Ok(()) => Ok(Named { members, names }),
+            Err(error) => Err(error),
         }
-        Ok(Named { members, names })
     }
 
     /// The members in order.
@@ -105,6 +105,18 @@ impl<T: Titled> Named<T> {
         let Named { members, names: _ } = self;
         members
     }
+}
+
+/// Adds the names of members, which differ, where no name is there yet.
+fn add_titles<T: Titled>(alloc: Global, names: &mut Names, members: &[T]) -> Result<(), NoMemory>
+    requires fresh { names.old ≡ [] }
+    requires apart { AreApart (map T.title members.now) }
+    ensures { OnOk result (names.new ≡ map T.title members.now) }
+{
+    for member in members {
+        names.add(alloc, member.title())?;
+    }
+    Ok(())
 }
 
 impl Titled for CollDecl {

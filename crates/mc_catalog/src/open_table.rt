@@ -1,4 +1,4 @@
-ghost use Rattle.std.specs.Prelude.{◌≡◌, ◌<◌, ◌^◌, [], length, IfErr, IfSome, OnOk, None, Some};
+ghost use Rattle.std.specs.Prelude.{◌≡◌, ◌<◌, ◌^◌, [], length, IfOk, IfErr, OnOk, None, Some};
 ghost use Rattle.std.specs.Option.{option_and_then};
 ghost use Rattle.mc_catalog.specs.Lawful.{width_of};
 ghost use Rattle.mc_catalog.specs.Progress.{id_of, type_of, width_at, indexed_column, with_column, with_index};
@@ -69,21 +69,41 @@ impl OpenTable {
         ensures err { IfErr result (λ fault. IsCausedBy fault (first_of (column_tests collations.now name form self.old))) }
         ensures named { self.new.name ≡ self.old.name }
     {
-        let Some(ty) = type_of(collations, &form) else {
+        match self.column_type(collations, name.as_slice(), &form) {
+            Ok(ty) => {
+                self.columns.push(alloc, ColumnDecl { name, ty })?;
+                Ok(())
+            }
+            Err(fault) => Err(fault),
+        }
+    }
+
+    /// The type of a column of this name, where one can be added.
+    fn column_type(
+        &self,
+        collations: &Named<CollDecl>,
+        name: &[u8],
+        form: &ColumnForm,
+    ) -> Result<ColumnType, CatalogFaultKind>
+        requires { length collations.now < 2 ^ 32 }
+        ensures ok { OnOk result (first_of (column_tests collations.now name.now form.now self.now) ≡ None) }
+        ensures value { IfOk result (λ ty. type_of collations.now form.now ≡ Some ty) }
+        ensures err { IfErr result (λ fault. IsCausedBy fault (first_of (column_tests collations.now name.now form.now self.now))) }
+    {
+        let Some(ty) = type_of(collations, form) else {
             return Err(CatalogFaultKind::UnknownCollation);
         };
-        if self.columns.has(name.as_slice()) {
+        if self.columns.has(name) {
             return Err(CatalogFaultKind::Repeated);
         }
         if self.columns.as_slice().len() >= COLUMNS {
             return Err(CatalogFaultKind::TooMany);
         }
-        self.columns.push(alloc, ColumnDecl { name, ty })?;
-        Ok(())
+        Ok(ty)
     }
 
     /// Adds an index.
-    #[tactic(auto, unfolding(crate::specs::Progress::with_index, crate::specs::CatalogFaults::indexed_width, crate::specs::Progress::indexed_column))]
+    #[tactic(auto, unfolding(crate::specs::Progress::with_index))]
     pub(crate) fn add_index(
         &mut self,
         alloc: Global,
@@ -97,7 +117,34 @@ impl OpenTable {
         ensures err { IfErr result (λ fault. IsCausedBy fault (first_of (index_tests name column prefix self.old))) }
         ensures named { self.new.name ≡ self.old.name }
     {
-        let Some(place) = self.columns.place_of(column.as_slice()) else {
+        match self.indexed_place(name.as_slice(), column.as_slice(), prefix) {
+            Ok(place) => {
+                let index = IndexDecl {
+                    name,
+                    column: place as u32,
+                    prefix,
+                };
+                self.indexes.push(alloc, index)?;
+                Ok(())
+            }
+            Err(fault) => Err(fault),
+        }
+    }
+
+    /// The place of the column of an index of this name, where one can be added.
+    #[tactic(auto, unfolding(crate::specs::CatalogFaults::indexed_width, crate::specs::Progress::indexed_column))]
+    fn indexed_place(
+        &self,
+        name: &[u8],
+        column: &[u8],
+        prefix: Option<u32>,
+    ) -> Result<usize, CatalogFaultKind>
+        ensures ok { OnOk result (first_of (index_tests name.now column.now prefix self.now) ≡ None) }
+        ensures value { IfOk result (λ place. indexed_column self.now.columns column.now ≡ Some place) }
+        ensures within { IfOk result (λ place. place < length self.now.columns) }
+        ensures err { IfErr result (λ fault. IsCausedBy fault (first_of (index_tests name.now column.now prefix self.now))) }
+    {
+        let Some(place) = self.columns.place_of(column) else {
             return Err(CatalogFaultKind::UnknownColumn);
         };
         let Some(width) = width_at(self.columns.as_slice(), place) else {
@@ -106,19 +153,13 @@ impl OpenTable {
         if is_bad_length(prefix, width) {
             return Err(CatalogFaultKind::BadLength);
         }
-        if self.indexes.has(name.as_slice()) {
+        if self.indexes.has(name) {
             return Err(CatalogFaultKind::Repeated);
         }
         if self.indexes.as_slice().len() >= INDEXES {
             return Err(CatalogFaultKind::TooMany);
         }
-        let index = IndexDecl {
-            name,
-            column: place as u32,
-            prefix,
-        };
-        self.indexes.push(alloc, index)?;
-        Ok(())
+        Ok(place)
     }
 
     /// The table as it is.

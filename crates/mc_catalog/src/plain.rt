@@ -26,21 +26,27 @@ pub(crate) fn built_in_collations(alloc: Global) -> Result<List<CollDecl>, NoMem
     ensures { IfOk result (λ collations. collations ≡ built_in_collations) }
 {
     let mut collations = List::new(alloc);
-    add_bin(alloc, &mut collations, b"binary", Charset::Binary)?;
-    add_bin(alloc, &mut collations, b"latin1_bin", Charset::Latin1)?;
-    add_bin(alloc, &mut collations, b"ascii_bin", Charset::Ascii)?;
-    add_bin(alloc, &mut collations, b"utf8mb3_bin", Charset::Utf8mb3)?;
-    add_bin(alloc, &mut collations, b"utf8mb4_bin", Charset::Utf8mb4)?;
-    add_bin(alloc, &mut collations, b"ucs2_bin", Charset::Ucs2)?;
-    add_bin(alloc, &mut collations, b"utf16_bin", Charset::Utf16)?;
-    add_bin(alloc, &mut collations, b"utf32_bin", Charset::Utf32)?;
-    add_bin(
-        alloc,
-        &mut collations,
-        b"utf8mb4_0900_bin",
-        Charset::Utf8mb4,
-    )?;
-    Ok(collations)
+    match add_built_in(alloc, &mut collations) {
+        Ok(()) => Ok(collations),
+        Err(error) => Err(error),
+    }
+}
+
+/// Appends the nine built-in collations to a list without members.
+fn add_built_in(alloc: Global, collations: &mut List<CollDecl>) -> Result<(), NoMemory>
+    requires { collations.old ≡ [] }
+    ensures { OnOk result (collations.new ≡ built_in_collations) }
+{
+    add_bin(alloc, collations, b"binary", Charset::Binary)?;
+    add_bin(alloc, collations, b"latin1_bin", Charset::Latin1)?;
+    add_bin(alloc, collations, b"ascii_bin", Charset::Ascii)?;
+    add_bin(alloc, collations, b"utf8mb3_bin", Charset::Utf8mb3)?;
+    add_bin(alloc, collations, b"utf8mb4_bin", Charset::Utf8mb4)?;
+    add_bin(alloc, collations, b"ucs2_bin", Charset::Ucs2)?;
+    add_bin(alloc, collations, b"utf16_bin", Charset::Utf16)?;
+    add_bin(alloc, collations, b"utf32_bin", Charset::Utf32)?;
+    add_bin(alloc, collations, b"utf8mb4_0900_bin", Charset::Utf8mb4)?;
+    Ok(())
 }
 
 /// Appends a built-in collation.

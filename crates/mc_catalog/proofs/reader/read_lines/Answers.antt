@@ -4,7 +4,7 @@ use Rattle.mc_catalog.proofs.LinesRead.{none_read, one_read, refused_read}
 use Rattle.mc_catalog.proofs.reader.read_lines.Goals as goal
 
 pub loop-line-init : goal.loop-line-init
-loop-line-init c = rw (c.in_ok-builder.ensures, c.new-lines.ensures) (none_read (lines_of c.args.text.now))
+loop-line-init c = rw (c.requires.fresh, c.new-lines.ensures) (none_read (lines_of c.args.text.now))
 
 pub returns-in-Err-clause-refused : goal.returns-in-Err-clause-refused
 returns-in-Err-clause-refused c =

@@ -1,4 +1,4 @@
-use crate::{
+use mc_catalog::{
     Catalog, CatalogFault, ColumnType, Kind, default_of, find_collation, plain_catalog,
     read_catalog,
 };

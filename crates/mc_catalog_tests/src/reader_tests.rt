@@ -1,5 +1,5 @@
-use crate::{CatalogFaultKind, read_catalog};
 use mc_base::{NoMemory, Text};
+use mc_catalog::{CatalogFaultKind, read_catalog};
 use std::alloc::Global;
 
 /// A file, and its fault, if it has one.
