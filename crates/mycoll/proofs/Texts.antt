@@ -111,3 +111,6 @@ pub of_script : (script : List ℕ) (from to : ℕ) (ts : List Token) (r : Resul
 of_script script from to ts (Err lack) e a h u = tt
 of_script script from to ts (Ok None) e a h u = tt
 of_script script from to ts (Ok (Some query)) e a h u = record { header = header_within script from to ts query e a (sym h); form = u }
+
+-- What tokens behind others keep.
+pub ruleset kept = (after_utf8, drop_utf8)
