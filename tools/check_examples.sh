@@ -55,6 +55,7 @@ done
 
 answer="'ü' = 'ue' COLLATE latin1_german2_ci"
 expect "./mycoll CATALOG -e" "$answer"$'\n1' 0 "$top/examples/german" cat.txt -e "SELECT $answer"
+expect "a word without UTF-8" $'refused \xFF.sql Absent 0' 3 "$top" $'\xFF.sql'
 expect "-e without UTF-8" "refused /dev/stdin NotUtf8 8" 3 "$top" -e $'SELECT \'\xFF\''
 [ "$(cat "$room/said")" = "mycoll: /dev/stdin holds the statements behind -e" ]
 check "-e without UTF-8: what /dev/stdin is" $?

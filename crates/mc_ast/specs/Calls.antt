@@ -2,7 +2,9 @@
 use Rattle.std.specs.Prelude.{pos, [], ◌∷◌, Some, None, codes}
 use Rattle.mc_token.specs.declared.lexeme.Lexeme.TheVariants.{Sym}
 use Rattle.mc_token.specs.declared.lexeme.Symbol.TheVariants.{Comma, LeftParen, RightParen, Star}
-use Rattle.mc_ast.specs.declared.expr.Form.TheVariants.{Str, Convert, CastChar, CastBinary, CountAll, CountDistinct, Trim, SubstringFrom, WeightString, Call}
+use Rattle.mc_ast.specs.declared.expr.Form.TheVariants.{Str, Convert, CastChar, CastBinary}
+use Rattle.mc_ast.specs.declared.expr.Form.TheVariants.{CountAll, CountDistinct, Trim}
+use Rattle.mc_ast.specs.declared.expr.Form.TheVariants.{SubstringFrom, WeightString, Call}
 use Rattle.mc_ast.specs.declared.operators.Cut.TheVariants.{Chars}
 use Rattle.mc_ast.specs.declared.operators.TrimSide.TheVariants.{Both, Leading}
 use Rattle.mc_ast.specs.Written.{word, string, number, at, column, whole_number, ReadsExpr}

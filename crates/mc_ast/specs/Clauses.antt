@@ -3,7 +3,8 @@ use Rattle.std.specs.Prelude.{[], ◌∷◌, true, false, Some, None, codes}
 use Rattle.mc_token.specs.declared.lexeme.Lexeme.TheVariants.{Sym}
 use Rattle.mc_token.specs.declared.lexeme.Symbol.TheVariants.{Comma, LeftParen, RightParen, Star}
 use Rattle.mc_ast.specs.declared.expr.Form.TheVariants.{Like}
-use Rattle.mc_ast.specs.Written.{word, string, number, at, column, item_at, by_order, plain, Reads, HasNone}
+use Rattle.mc_ast.specs.Written.{word, string, number, at, column, item_at, by_order, plain, Reads}
+use Rattle.mc_ast.specs.Written.{HasNone}
 
 -- SELECT *, a FROM t
 abbrev pub StarAndAnItem : Type 0

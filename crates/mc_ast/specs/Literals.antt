@@ -2,7 +2,8 @@
 use Rattle.std.specs.Prelude.{[], ◌∷◌, codes}
 use Rattle.mc_token.specs.declared.lexeme.Lexeme.TheVariants.{National as NationalToken, Hex, Sym}
 use Rattle.mc_token.specs.declared.lexeme.Symbol.TheVariants.{Dot}
-use Rattle.mc_ast.specs.declared.expr.Form.TheVariants.{True, Str, National, IntroStr, IntroHex, Qualified}
+use Rattle.mc_ast.specs.declared.expr.Form.TheVariants.{True, Str, National, IntroStr, IntroHex}
+use Rattle.mc_ast.specs.declared.expr.Form.TheVariants.{Qualified}
 use Rattle.mc_ast.specs.Written.{word, string, at, column, ReadsExpr}
 
 -- 'a' 'b'

@@ -1,12 +1,40 @@
 -- What each alternative of the grammar means: MySQL 8.0 manual, 13.2.10, 12.4 and 9.1.
-use Rattle.std.specs.Prelude.{ℕ, nat_abs, List, [], ◌∷◌, ◌++◌, drop, Bool, true, false, Option, Some, None, codes}
+use Rattle.std.specs.Prelude.{ℕ, nat_abs, List, [], ◌∷◌, ◌++◌, drop, Bool, true, false, Option}
+use Rattle.std.specs.Prelude.{Some, None, codes}
 use Rattle.std.specs.Option.{option_map, option_and_then}
 use Rattle.mc_base.specs.declared.span.Span.{Span}
 use Rattle.mc_token.specs.declared.lexeme.Token.{Token}
-use Rattle.mc_sql.specs.Rules.{Alternative, star_statement, items_statement, no_explain, explained, no_distinct, distinct_rows, no_more_items, one_more_item, no_source, given_source, from_table, no_where, where_holds, no_group, group_by, no_more_ors, one_more_or, no_order, order_by, no_more_orders, one_more_order, no_limit, limit_rows, no_offset, offset_before, offset_behind, one_item, no_alias, as_alias, bare_alias, one_order, no_direction, ascending, descending, xors, no_more_xors, one_more_xor, ands, no_more_ands, one_more_and, nots, no_more_nots, one_more_not, negated, just_pred, just_sum, compared, tested_null, matched, listed, ranged, no_not, with_not, no_escape, with_escape, equal, null_equal, unequal, unequal_bang, less, less_equal, greater, greater_equal, prods, no_more_prods, plus_prod, minus_prod, negs, no_more_negs, times_neg, div_neg, percent_neg, mod_neg, minus, just_coll, collated, no_more_collates, one_more_collate, by_name, by_binary, number, true_word, false_word, null_word, just_string, column, table_column, just_call, in_parens, plain_string, national_string, hex_string, intro_string, intro_hex, no_more_strs, one_more_str, convert_call, cast_char_call, cast_binary_call, count_all_call, count_distinct_call, trim_side_call, trim_call, substring_call, weight_string_call, empty_call, single_call, many_call, no_set, with_set, both_sides, leading_side, trailing_side, no_or, given_or, no_length, with_length, no_cut, char_cut, binary_cut}
+use Rattle.mc_sql.specs.Rules.{Alternative, star_statement, items_statement, no_explain, explained}
+use Rattle.mc_sql.specs.Rules.{no_distinct, distinct_rows, no_more_items, one_more_item, no_source}
+use Rattle.mc_sql.specs.Rules.{given_source, from_table, no_where, where_holds, no_group, group_by}
+use Rattle.mc_sql.specs.Rules.{no_more_ors, one_more_or, no_order, order_by, no_more_orders}
+use Rattle.mc_sql.specs.Rules.{one_more_order, no_limit, limit_rows, no_offset, offset_before}
+use Rattle.mc_sql.specs.Rules.{offset_behind, one_item, no_alias, as_alias, bare_alias, one_order}
+use Rattle.mc_sql.specs.Rules.{no_direction, ascending, descending, xors, no_more_xors}
+use Rattle.mc_sql.specs.Rules.{one_more_xor, ands, no_more_ands, one_more_and, nots, no_more_nots}
+use Rattle.mc_sql.specs.Rules.{one_more_not, negated, just_pred, just_sum, compared, tested_null}
+use Rattle.mc_sql.specs.Rules.{matched, listed, ranged, no_not, with_not, no_escape, with_escape}
+use Rattle.mc_sql.specs.Rules.{equal, null_equal, unequal, unequal_bang, less, less_equal, greater}
+use Rattle.mc_sql.specs.Rules.{greater_equal, prods, no_more_prods, plus_prod, minus_prod, negs}
+use Rattle.mc_sql.specs.Rules.{no_more_negs, times_neg, div_neg, percent_neg, mod_neg, minus}
+use Rattle.mc_sql.specs.Rules.{just_coll, collated, no_more_collates, one_more_collate, by_name}
+use Rattle.mc_sql.specs.Rules.{by_binary, number, true_word, false_word, null_word, just_string}
+use Rattle.mc_sql.specs.Rules.{column, table_column, just_call, in_parens, plain_string}
+use Rattle.mc_sql.specs.Rules.{national_string, hex_string, intro_string, intro_hex, no_more_strs}
+use Rattle.mc_sql.specs.Rules.{one_more_str, convert_call, cast_char_call, cast_binary_call}
+use Rattle.mc_sql.specs.Rules.{count_all_call, count_distinct_call, trim_side_call, trim_call}
+use Rattle.mc_sql.specs.Rules.{substring_call, weight_string_call, empty_call, single_call}
+use Rattle.mc_sql.specs.Rules.{many_call, no_set, with_set, both_sides, leading_side, trailing_side}
+use Rattle.mc_sql.specs.Rules.{no_or, given_or, no_length, with_length, no_cut, char_cut}
+use Rattle.mc_sql.specs.Rules.{binary_cut}
 use Rattle.mc_ast.specs.declared.expr.Expr.{Expr}
 use Rattle.mc_ast.specs.declared.expr.Form.{Form}
-use Rattle.mc_ast.specs.declared.expr.Form.TheVariants.{Or, And, Not, Compare, IsNull, Like, In, Between, Neg, Int, True, False, Null, Str, National, Hex, IntroStr, IntroHex, Name, Qualified, Convert, CastChar, CastBinary, CountAll, CountDistinct, Trim, SubstringFrom, WeightString, Call}
+use Rattle.mc_ast.specs.declared.expr.Form.TheVariants.{Or, And, Not, Compare, IsNull, Like, In}
+use Rattle.mc_ast.specs.declared.expr.Form.TheVariants.{Between, Neg, Int, True, False, Null, Str}
+use Rattle.mc_ast.specs.declared.expr.Form.TheVariants.{National, Hex, IntroStr, IntroHex, Name}
+use Rattle.mc_ast.specs.declared.expr.Form.TheVariants.{Qualified, Convert, CastChar, CastBinary}
+use Rattle.mc_ast.specs.declared.expr.Form.TheVariants.{CountAll, CountDistinct, Trim}
+use Rattle.mc_ast.specs.declared.expr.Form.TheVariants.{SubstringFrom, WeightString, Call}
 use Rattle.mc_ast.specs.declared.operators.ArithOp.{ArithOp}
 use Rattle.mc_ast.specs.declared.operators.ArithOp.TheVariants.{Add, Sub, Mul, Div, Mod}
 use Rattle.mc_ast.specs.declared.operators.CmpOp.TheVariants.{Eq, NullEq, Ne, Lt, Le, Gt, Ge}
@@ -16,7 +44,11 @@ use Rattle.mc_ast.specs.declared.statement.Item.{Item}
 use Rattle.mc_ast.specs.declared.statement.OrderItem.{OrderItem}
 use Rattle.mc_ast.specs.declared.statement.Statement.{Statement}
 use Rattle.mc_ast.specs.Grouping.{whole, grouped, grouped_xor, under}
-use Rattle.mc_ast.specs.Values.{Operand, Operation, Source, exprs, lexeme_text, lexeme_number, Value, ill, a_token, operand, operands, maybe_operand, operations, collations, collation, text, maybe_text, flag, comparison, trim_side, cut, item, items, order_item, order_items, source, the_count, the_offset, no_number, limit, a_statement}
+use Rattle.mc_ast.specs.Values.{Operand, Operation, Source, exprs, lexeme_text, lexeme_number}
+use Rattle.mc_ast.specs.Values.{Value, ill, a_token, operand, operands, maybe_operand, operations}
+use Rattle.mc_ast.specs.Values.{collations, collation, text, maybe_text, flag, comparison}
+use Rattle.mc_ast.specs.Values.{trim_side, cut, item, items, order_item, order_items, source}
+use Rattle.mc_ast.specs.Values.{the_count, the_offset, no_number, limit, a_statement}
 
 -- An operand of this form whose tokens are all its own.
 abbrev an : Span → Form → Value
@@ -36,7 +68,8 @@ groups_of None = []
 groups_of (Some s) = s.groups
 
 -- A statement of these parts, with or without `*`.
-abbrev made : Bool → Bool → Bool → List Item → Option Source → List OrderItem → Option (ℕ × ℕ) → Statement
+abbrev made : Bool → Bool → Bool → List Item → Option Source → List OrderItem → Option (ℕ × ℕ)
+    → Statement
 made explain distinct star is from orders rows = record {
   explain = explain;
   distinct = distinct;

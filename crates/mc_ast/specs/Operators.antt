@@ -1,8 +1,12 @@
 -- Examples of operators and their grouping: tokens and their tree.
 use Rattle.std.specs.Prelude.{[], ◌∷◌, true, false, Some, None, codes}
 use Rattle.mc_token.specs.declared.lexeme.Lexeme.TheVariants.{Sym}
-use Rattle.mc_token.specs.declared.lexeme.Symbol.TheVariants.{Comma, Eq as EqSign, LeftParen, Lt as LtSign, Minus, NeBang, NullEq as NullEqSign, Plus, RightParen, Star}
-use Rattle.mc_ast.specs.declared.expr.Form.TheVariants.{Or, And, Xor, Not, Compare, IsNull, Like, In, Between, Arith, Neg, Collate}
+use Rattle.mc_token.specs.declared.lexeme.Symbol.TheVariants.{Comma, Eq as EqSign, LeftParen}
+use Rattle.mc_token.specs.declared.lexeme.Symbol.TheVariants.{Lt as LtSign, Minus, NeBang}
+use Rattle.mc_token.specs.declared.lexeme.Symbol.TheVariants.{NullEq as NullEqSign, Plus}
+use Rattle.mc_token.specs.declared.lexeme.Symbol.TheVariants.{RightParen, Star}
+use Rattle.mc_ast.specs.declared.expr.Form.TheVariants.{Or, And, Xor, Not, Compare, IsNull, Like}
+use Rattle.mc_ast.specs.declared.expr.Form.TheVariants.{In, Between, Arith, Neg, Collate}
 use Rattle.mc_ast.specs.declared.operators.ArithOp.TheVariants.{Add, Sub, Mul, Div, Mod}
 use Rattle.mc_ast.specs.declared.operators.CmpOp.TheVariants.{Eq, NullEq, Ne, Lt}
 use Rattle.mc_ast.specs.Written.{word, string, number, at, column, whole_number, ReadsExpr}

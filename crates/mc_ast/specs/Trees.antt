@@ -13,7 +13,8 @@ use Rattle.mc_ast.specs.Spans.{span_of}
 abbrev pub meanings : Forest Alternative Token → List Value
 meanings bare = []
 meanings (leaf token others) = a_token token ∷ meanings others
-meanings (node a inner others) = meaning a (span_of (tokens_of inner)) (meanings inner) ∷ meanings others
+meanings (node a inner others) =
+    meaning a (span_of (tokens_of inner)) (meanings inner) ∷ meanings others
 
 -- A reading of the tokens means this statement.
 pub record IsTreeOf (tokens : List Token) (tree : Statement) : Type 0 where

@@ -20,7 +20,8 @@ bytes start end = record { start = start; end = end }
 -- These lexemes as tokens from a byte on.
 abbrev pub tokens_from : ℕ → List Lexeme → List Token
 tokens_from n [] = []
-tokens_from n (lexeme ∷ lexemes) = record { span = bytes n (n + 1); kind = lexeme } ∷ tokens_from (n + 1) lexemes
+tokens_from n (lexeme ∷ lexemes) =
+    record { span = bytes n (n + 1); kind = lexeme } ∷ tokens_from (n + 1) lexemes
 
 abbrev pub word : String → Lexeme
 word text = Word (codes text)
@@ -67,7 +68,9 @@ Reads lexemes tree = IsTreeOf (tokens_from 0 lexemes) tree
 
 -- Behind SELECT the lexemes have this expression for their tree.
 abbrev pub ReadsExpr : List Lexeme → Expr → Type 0
-ReadsExpr lexemes expr = Reads (word "select" ∷ lexemes) (record plain { items = item_at 1 (1 + length lexemes) expr None ∷ [] })
+ReadsExpr lexemes expr =
+    Reads (word "select" ∷ lexemes)
+    (record plain { items = item_at 1 (1 + length lexemes) expr None ∷ [] })
 
 -- The lexemes have no tree.
 abbrev pub HasNone : List Lexeme → Type 0

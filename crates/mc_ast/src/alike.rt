@@ -5,5 +5,6 @@ ghost use Rattle.mc_ast.specs.Alike.{AreAlike};
 
 /// The law: expressions of one form are alike wherever they stand.
 pub fn likeness_ignores_spans()
-    ensures { (start end start' end' : ℕ) (form : Form) → AreAlike (at start end form) (at start' end' form) }
+    ensures { (start end start' end' : ℕ) (form : Form)
+        → AreAlike (at start end form) (at start' end' form) }
 {}

@@ -1,7 +1,70 @@
-ghost use Rattle.mc_ast.specs.Operators.{OrIsOneList, AndIsOneList, XorGroupsLeft, XorBeforeOr, AndBeforeXor, NotBeforeAnd, ComparisonBeforeNot, BangIsUnequal, NullEqual, SumBeforeComparison, IsNotNull, LikeWithEscape, NotLike, NotIn, BetweenTakesItsAnd, SumGroupsLeft, ProductBeforeSum, ParenthesesMakeNoNode, ModIsAnOperator, MinusBeforeProduct, MinusOfMinus, CollateBeforeMinus, CollateBinary};
-ghost use Rattle.mc_ast.specs.Literals.{StringsSideBySide, NationalString, StringWithItsSet, BytesWithTheirSet, SuchAWordAlone, ColumnOfATable, TrueIsTrue};
-ghost use Rattle.mc_ast.specs.Calls.{ModIsACall, CallOfNothing, CountOfAll, CountOfDistinct, PlainCount, TrimFrom, TrimLeading, PlainTrim, SubstringFromFor, WeightStringOfOne, WeightStringCut, WeightStringOfTwo, ConvertUsing, CastAsChar, CastAsBinary, CastAlone};
-ghost use Rattle.mc_ast.specs.Clauses.{StarAndAnItem, Aliases, ItemWithParentheses, EscapeAsAlias, OffsetBefore, OffsetBehind, LimitAlone, EveryClause, TrimOfNeither, StarWithoutTable, ReservedAlias, CastAsACall, StringBehindAName};
+ghost use Rattle.mc_ast.specs.Operators.{
+  OrIsOneList,
+  AndIsOneList,
+  XorGroupsLeft,
+  XorBeforeOr,
+  AndBeforeXor,
+  NotBeforeAnd,
+  ComparisonBeforeNot,
+  BangIsUnequal,
+  NullEqual,
+  SumBeforeComparison,
+  IsNotNull,
+  LikeWithEscape,
+  NotLike,
+  NotIn,
+  BetweenTakesItsAnd,
+  SumGroupsLeft,
+  ProductBeforeSum,
+  ParenthesesMakeNoNode,
+  ModIsAnOperator,
+  MinusBeforeProduct,
+  MinusOfMinus,
+  CollateBeforeMinus,
+  CollateBinary,
+};
+ghost use Rattle.mc_ast.specs.Literals.{
+  StringsSideBySide,
+  NationalString,
+  StringWithItsSet,
+  BytesWithTheirSet,
+  SuchAWordAlone,
+  ColumnOfATable,
+  TrueIsTrue,
+};
+ghost use Rattle.mc_ast.specs.Calls.{
+  ModIsACall,
+  CallOfNothing,
+  CountOfAll,
+  CountOfDistinct,
+  PlainCount,
+  TrimFrom,
+  TrimLeading,
+  PlainTrim,
+  SubstringFromFor,
+  WeightStringOfOne,
+  WeightStringCut,
+  WeightStringOfTwo,
+  ConvertUsing,
+  CastAsChar,
+  CastAsBinary,
+  CastAlone,
+};
+ghost use Rattle.mc_ast.specs.Clauses.{
+  StarAndAnItem,
+  Aliases,
+  ItemWithParentheses,
+  EscapeAsAlias,
+  OffsetBefore,
+  OffsetBehind,
+  LimitAlone,
+  EveryClause,
+  TrimOfNeither,
+  StarWithoutTable,
+  ReservedAlias,
+  CastAsACall,
+  StringBehindAName,
+};
 
 /// How operators group, by examples: MySQL 8.0 manual, 12.4.1.
 pub fn operators_group()

@@ -9,8 +9,8 @@ pub struct Expr {
     pub form: Form,
 }
 
-/// What an expression is: MySQL 8.0 manual, 9.5. Names and texts have their escapes and quotes taken
-/// away. Parentheses make no form of their own.
+/// What an expression is: MySQL 8.0 manual, 9.5. Names and texts have their escapes and quotes
+/// taken away. Parentheses make no form of their own.
 #[cycle(expr)]
 #[derive(Drop)]
 pub enum Form {

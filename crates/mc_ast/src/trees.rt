@@ -10,13 +10,15 @@ use mc_sql::statements_read_once;
 
 /// The law: a list of tokens has at most one tree, spans included.
 pub fn trees_are_unique()
-    ensures { (tokens : List Token) (tree other : Statement) → IsTreeOf tokens tree → IsTreeOf tokens other → tree ≡ other }
+    ensures { (tokens : List Token) (tree other : Statement)
+        → IsTreeOf tokens tree → IsTreeOf tokens other → tree ≡ other }
 {
     statements_read_once();
 }
 
 /// The law: tokens that the grammar reads have a tree.
 pub fn readings_have_trees()
-    ensures { (tokens : List Token) (reading : Forest Alternative Token) → IsReading statements statement tokens reading
+    ensures { (tokens : List Token) (reading : Forest Alternative Token)
+        → IsReading statements statement tokens reading
         → (tree : Statement) × IsTreeOf tokens tree }
 {}

@@ -5,12 +5,12 @@ use Rattle.std.proofs.lemmas.List.{drop_more, map_push, map-append}
 use Rattle.mc_base.specs.declared.refusal.FileRefusal.{FileRefusal}
 use Rattle.mc_book.specs.Any.{any_meaning}
 use Rattle.mc_book.specs.BookOutcome.{all_or_first, behind_outcome}
-use Rattle.mc_book.specs.Meanings.{meanings, set_of}
+use Rattle.mc_book.specs.Meanings.{meanings, any_set}
 use Rattle.mc_catalog.specs.declared.catalog.CollDecl.{CollDecl}
-use Rattle.mc_book.specs.Told.{HasOutcome}
+use Rattle.mc_base.specs.FileOutcome.{HasOutcome}
 use Rattle.mc_book.specs.declared.any_collation.AnyCollation.{AnyCollation}
-use Rattle.mc_book.specs.declared.fault.BookFault.{BookFault}
-use Rattle.mc_book.specs.declared.fault.BookFault.TheVariants.{Refused, Fault, NoMemory}
+use Rattle.mc_base.specs.declared.file.FileFault.{FileFault}
+use Rattle.mc_base.specs.declared.file.FileFault.TheVariants.{Refused, Fault, NoMemory}
 use Rattle.mc_order.specs.Meaning.{Meaning}
 
 -- What is told before and what is told now, together.
@@ -90,7 +90,7 @@ stop_at f before all ds i d refusal h there so_far e =
     ∙ behind-stop before all (map f (take i ds)) (map f (drop (i + 1) ds)) refusal so_far
 
 -- The first declaration whose file is refused.
-pub stopped : {D : Type 0} (f : D → Result Meaning FileRefusal) (before all : List Meaning) (ds : List D) (i : ℕ) (d : D) (fault : BookFault) →
+pub stopped : {D : Type 0} (f : D → Result Meaning FileRefusal) (before all : List Meaning) (ds : List D) (i : ℕ) (d : D) (fault : FileFault) →
     i < length ds → d ≡ get_or ds i d → behind_outcome before (map f (take i ds)) ≡ Ok all → HasOutcome any_meaning (Err fault) (f d) →
     HasOutcome meanings (Err fault) (behind_outcome before (map f ds))
 stopped f before all ds i d (Refused refusal) h there so_far e = stop_at f before all ds i d refusal h there so_far e
@@ -99,13 +99,13 @@ stopped f before all ds i d NoMemory h there so_far e = tt
 
 -- The sets of one more collation.
 pub more_sets : (before now : List AnyCollation) (ds : List CollDecl) (i : ℕ) (d : CollDecl) (collation : AnyCollation) →
-    take (i + 1) ds ≡ take i ds ++ d ∷ [] → map set_of now ≡ map set_of before ++ map (λ each. each.charset) (take i ds) →
-    set_of collation ≡ d.charset →
-    map set_of (now ++ collation ∷ []) ≡ map set_of before ++ map (λ each. each.charset) (take (i + 1) ds)
+    take (i + 1) ds ≡ take i ds ++ d ∷ [] → map any_set now ≡ map any_set before ++ map (λ each. each.charset) (take i ds) →
+    any_set collation ≡ d.charset →
+    map any_set (now ++ collation ∷ []) ≡ map any_set before ++ map (λ each. each.charset) (take (i + 1) ds)
 more_sets before now ds i d collation next so_far e =
-    map_push set_of now collation
-    ∙ ap (λ sets. sets ++ set_of collation ∷ []) so_far
-    ∙ ap (λ set. (map set_of before ++ map (λ each. each.charset) (take i ds)) ++ set ∷ []) e
-    ∙ append_assoc (map set_of before) (map (λ each. each.charset) (take i ds)) (d.charset ∷ [])
-    ∙ ap (λ sets. map set_of before ++ sets) (sym (map_push (λ each. each.charset) (take i ds) d))
-    ∙ ap (λ front. map set_of before ++ map (λ each. each.charset) front) (sym next)
+    map_push any_set now collation
+    ∙ ap (λ sets. sets ++ any_set collation ∷ []) so_far
+    ∙ ap (λ set. (map any_set before ++ map (λ each. each.charset) (take i ds)) ++ set ∷ []) e
+    ∙ append_assoc (map any_set before) (map (λ each. each.charset) (take i ds)) (d.charset ∷ [])
+    ∙ ap (λ sets. map any_set before ++ sets) (sym (map_push (λ each. each.charset) (take i ds) d))
+    ∙ ap (λ front. map any_set before ++ map (λ each. each.charset) front) (sym next)

@@ -1,5 +1,5 @@
 ghost use Rattle.std.specs.Prelude.{◌≡◌, ◌<◌, ◌^◌, length};
-ghost use Rattle.mc_book.specs.Meanings.{any_at};
+ghost use Rattle.mc_book.specs.Meanings.{meaning_at, meanings};
 
 use crate::AnyCollation;
 use mc_base::List;
@@ -37,7 +37,7 @@ impl AnyBook {
 impl Book for AnyBook {
     type C = AnyCollation;
 
-    ghost collation = { any_at };
+    ghost meaning = { λ book. meaning_at (meanings book) };
 
     ghost count = { λ book. length book };
 

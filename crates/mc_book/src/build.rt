@@ -1,19 +1,35 @@
-ghost use Rattle.std.specs.Prelude.{◌≡◌, ◌≤◌, ◌++◌, [], List, Option, ℕ, IfOk, IfSome, IsTrue, All, drop, length, map};
+ghost use Rattle.std.specs.Prelude.{
+  ◌≡◌,
+  ◌≤◌,
+  ◌++◌,
+  [],
+  List,
+  Option,
+  ℕ,
+  IfOk,
+  IfSome,
+  IsTrue,
+  All,
+  drop,
+  length,
+  map,
+};
+ghost use Rattle.mc_base.specs.FileOutcome.{FileCause, HasOutcome};
 ghost use Rattle.mc_book.specs.Any.{any_meaning};
-ghost use Rattle.mc_book.specs.BookOutcome.{IsBuilt, book_outcome, declared_outcome, behind_outcome};
-ghost use Rattle.mc_book.specs.Meanings.{FitsCatalog, any_at, meaning_at, meanings, set_of};
-ghost use Rattle.mc_book.specs.Told.{BookCause, HasOutcome};
+ghost use Rattle.mc_book.specs.BookOutcome.{book_outcome, declared_outcome, behind_outcome};
+ghost use Rattle.mc_book.specs.Meanings.{any_set, meaning_at, meanings};
+ghost use Rattle.mc_catalog.specs.Fits.{FitsCatalog};
 ghost use Rattle.mc_catalog.specs.Lawful.{IsLawful, IsLawfulCollation};
+ghost use Rattle.mc_catalog.specs.Limits.{built_in_count};
 ghost use Rattle.mc_book.specs.declared.any_collation.AnyCollation.TheVariants.{Bin};
 ghost use Rattle.mc_order.specs.Bin.{built_in};
 
 use crate::fault::BookFault;
-use crate::file::read_file;
 use crate::kinds::declared_collations;
-use crate::table::read_table;
+use crate::table::{load_bytes, load_codes};
 use crate::{AnyBook, AnyCollation};
-use mc_base::{Files, List, NoMemory};
-use mc_catalog::{Catalog, CollDecl};
+use mc_base::{Files, List, NoMemory, refuse_file};
+use mc_catalog::{Catalog, CollDecl, Kind};
 use mc_charset::CollId;
 use mc_order::BinCollation;
 use std::alloc::Global;
@@ -29,25 +45,25 @@ fn built_in_collations(alloc: Global) -> Result<List<AnyCollation>, NoMemory>
     Ok(collations)
 }
 
-/// The collation of a declaration, by its file.
+/// The collation of a declaration, by the files of its kind.
 #[tactic(auto, unfolding(crate::specs::BookOutcome::declared_outcome))]
 fn load<F: Files>(
     alloc: Global,
     declared: &CollDecl,
     files: &mut F,
 ) -> Result<AnyCollation, BookFault>
-    requires built { IsBuilt declared.now }
-    requires lawful { IsLawfulCollation declared.now }
+    requires { IsLawfulCollation declared.now }
     ensures kept { F.contents files.new ≡ F.contents files.old }
     ensures later { F.faults files.old ≤ F.faults files.new }
     ensures told { IfSome (F.contents files.old) (λ told.
         HasOutcome any_meaning result (declared_outcome told declared.now)) }
-    ensures cause { BookCause result (F.faults files.old) (F.faults files.new) }
-    ensures set { IfOk result (λ collation. (any_meaning collation).charset ≡ declared.now.charset) }
+    ensures cause { FileCause result (F.faults files.old) (F.faults files.new) }
+    ensures set { IfOk result (λ collation. any_set collation ≡ declared.now.charset) }
 {
-    match read_file(alloc, files, &declared.file) {
-        Ok(text) => read_table(alloc, declared, text.as_slice()),
-        Err(fault) => Err(fault),
+    match declared.kind {
+        Kind::Table8 => load_bytes(alloc, declared, files),
+        Kind::General => load_codes(alloc, declared, files),
+        _ => Err(refuse_file(alloc, &declared.file, b"NotBuilt", 0)),
     }
 }
 
@@ -59,14 +75,15 @@ fn load_all<F: Files>(
     files: &mut F,
     mut collations: List<AnyCollation>,
 ) -> Result<List<AnyCollation>, BookFault>
-    requires built { All IsBuilt declared.now }
-    requires lawful { All IsLawfulCollation declared.now }
+    requires { All IsLawfulCollation declared.now }
     ensures kept { F.contents files.new ≡ F.contents files.old }
     ensures later { F.faults files.old ≤ F.faults files.new }
     ensures told { IfSome (F.contents files.old) (λ told.
-        HasOutcome meanings result (behind_outcome (meanings collations) (map (declared_outcome told) declared.now))) }
-    ensures cause { BookCause result (F.faults files.old) (F.faults files.new) }
-    ensures sets { IfOk result (λ all. map set_of all ≡ map set_of collations ++ map (λ each. each.charset) declared.now) }
+        HasOutcome meanings result
+        (behind_outcome (meanings collations) (map (declared_outcome told) declared.now))) }
+    ensures cause { FileCause result (F.faults files.old) (F.faults files.new) }
+    ensures sets { IfOk result (λ all.
+        map any_set all ≡ map any_set collations ++ map (λ each. each.charset) declared.now) }
     ensures unopened { declared.now ≡ [] → files.new ≡ files.old }
 {
     for each in declared {
@@ -77,27 +94,25 @@ fn load_all<F: Files>(
 }
 
 /// The book of a catalog's collations: the nine built-in ones, then the declared ones, each by the
-/// table of its file. The files are read in the order of the catalog, each whole and parsed before
+/// files of its kind. The files are read in the order of the catalog, each whole and parsed before
 /// the next one is opened, and the first refusal ends it (MySQL 8.0 manual, 10.14).
 ///
 /// A file is refused by the name of its fault and a number: `Absent` 0; `TooLong` 16777216, for
-/// more bytes than that; `BadLine` and `Repeated` the line, from 1; `Missing` the byte.
+/// more bytes than that; `BadLine` and `Repeated` the line, from 1; `Missing` the byte; `NotBuilt`
+/// 0, for a collation of a kind that is not built.
 #[tactic(auto, unfolding(crate::specs::BookOutcome::book_outcome))]
 pub fn build_book<F: Files>(alloc: Global, c: &Catalog, files: &mut F) -> Result<AnyBook, BookFault>
-    requires lawful { IsLawful c.now }
-    requires built { All IsBuilt (drop 9 c.now.collations) }
+    requires { IsLawful c.now }
     ensures kept { F.contents files.new ≡ F.contents files.old }
     ensures later { F.faults files.old ≤ F.faults files.new }
     // The book and the refusal are those of the files' contents.
     ensures told { IfSome (F.contents files.old) (λ told.
         HasOutcome meanings result (book_outcome told c.now.collations)) }
-    ensures cause { BookCause result (F.faults files.old) (F.faults files.new) }
+    ensures cause { FileCause result (F.faults files.old) (F.faults files.new) }
     // The book has as many collations as the catalog, each of the declared set.
-    ensures fits { IfOk result (λ book. FitsCatalog c.now.collations (length book)
-        (λ id. any_meaning (any_at book id))) }
-    // What the collation of a number means is the entry of that number.
-    ensures entries { IfOk result (λ book. (λ (id : ℕ). any_meaning (any_at book id)) ≡ meaning_at (meanings book)) }
-    ensures unopened { drop 9 c.now.collations ≡ [] → files.new ≡ files.old }
+    ensures fits { IfOk result (λ book. FitsCatalog c.now (length book)
+        (λ id. (meaning_at (meanings book) id).charset)) }
+    ensures unopened { drop built_in_count c.now.collations ≡ [] → files.new ≡ files.old }
 {
     let built_in = built_in_collations(alloc)?;
     match load_all(alloc, declared_collations(c), files, built_in) {

@@ -6,9 +6,9 @@
 //! that `any` has.
 //!
 //! `build_book(alloc, &catalog, &mut files)` reads the table of each declared collation, in the
-//! order of the catalog; `specs/BookOutcome.antt` says what the files give, or which one is refused.
+//! order of the catalog; `specs/BookOutcome.antt` says what they give, or which one is refused.
 //!
-//! Read `any_collation` and `book`; then `fault`, `file`, `table` and `build`.
+//! Read `any_collation` and `book`; then `fault`, `kinds`, `table` and `build`.
 #![tactic(auto)]
 
 mod any_collation;
@@ -17,7 +17,6 @@ mod book;
 mod book_tests;
 mod build;
 mod fault;
-mod file;
 mod kinds;
 mod table;
 #[cfg(test)]
@@ -26,6 +25,5 @@ mod tests;
 pub use any_collation::AnyCollation;
 pub use book::AnyBook;
 pub use build::build_book;
-pub use fault::{BookFault, refused};
-pub use file::read_file;
+pub use fault::BookFault;
 pub use kinds::declares_built_kinds;

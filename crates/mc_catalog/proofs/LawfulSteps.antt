@@ -27,7 +27,7 @@ use Rattle.mc_catalog.specs.declared.entry.Entry.{Entry}
 use Rattle.mc_catalog.specs.declared.entry.Entry.TheVariants.{Collation, Connection, Table, Column, Index}
 use Rattle.mc_catalog.specs.declared.fault.CatalogFaultKind.{CatalogFaultKind}
 use Rattle.mc_catalog.specs.BuiltIn.{built_in_collations}
-use Rattle.mc_catalog.specs.Lawful.{IsLawful, IsLawfulTable, IsLawfulType, IsLawfulCollation, IsLawfulIndex, AreApart, suits, width_of}
+use Rattle.mc_catalog.specs.Lawful.{IsLawfulSoFar, IsLawfulTable, IsLawfulType, IsLawfulCollation, IsLawfulIndex, AreApart, suits, width_of}
 use Rattle.mc_catalog.specs.LookUp.{number_of}
 use Rattle.mc_catalog.specs.Formed.{IsFormed, IsFormedColumn}
 use Rattle.mc_catalog.specs.Progress.{Progress, tables_of, declared_of, id_of, type_of, with_column, column_named, width_at, indexed_column, with_index, with_entry, catalog_of}
@@ -84,7 +84,7 @@ nine collations e =
     let taken : length (take 9 collations) ≡ 9 = ap length e in
     omega (arith, length-take 9 collations)
 
-collation_kept : (so_far : Progress) (declared : CollDecl) → IsLawful (catalog_of so_far) → IsLawfulCollation declared → list_any (λ other. bytes_eq other.name declared.name) so_far.collations ≡ false → length so_far.collations < 73 → IsLawful (catalog_of (record so_far { collations = so_far.collations ++ declared ∷ [] }))
+collation_kept : (so_far : Progress) (declared : CollDecl) → IsLawfulSoFar (catalog_of so_far) → IsLawfulCollation declared → list_any (λ other. bytes_eq other.name declared.name) so_far.collations ≡ false → length so_far.collations < 73 → IsLawfulSoFar (catalog_of (record so_far { collations = so_far.collations ++ declared ∷ [] }))
 collation_kept so_far declared h own fresh few =
     let collations = so_far.collations in
     let some = nine collations h.built_in in
@@ -102,7 +102,7 @@ collation_kept so_far declared h own fresh few =
     }
 
 -- an entry that declares a collation
-collation_step : (so_far : Progress) (name : List ℕ) (set : Option Charset) (kind : Option Kind) (file : List ℕ) (rules : Option (List ℕ)) → IsLawful (catalog_of so_far) → IfSome rules (λ _. IsTrue (may_have_rules kind)) → first_of (collation_tests so_far.collations name set kind) ≡ None → IsLawful (catalog_of (record so_far { collations = so_far.collations ++ option_to_list (declared_of name set kind file rules) }))
+collation_step : (so_far : Progress) (name : List ℕ) (set : Option Charset) (kind : Option Kind) (file : List ℕ) (rules : Option (List ℕ)) → IsLawfulSoFar (catalog_of so_far) → IfSome rules (λ _. IsTrue (may_have_rules kind)) → first_of (collation_tests so_far.collations name set kind) ≡ None → IsLawfulSoFar (catalog_of (record so_far { collations = so_far.collations ++ option_to_list (declared_of name set kind file rules) }))
 unfolding declared_of
 collation_step so_far name None kind file rules h formed e = absurd (cc)
 collation_step so_far name (Some set) None file rules h formed e = absurd (cc)
@@ -122,7 +122,7 @@ id_within collations name id e = of (number_of collations name) refl
         omega (arith, same, (position-Some (λ collation. bytes_eq collation.name name) collations n (record { name = []; charset = Latin1; kind = Bin; file = []; rules = None }) f).0)
 
 -- the connection collation is one of the catalog's
-connection_kept : (so_far : Progress) (name : List ℕ) → IsLawful (catalog_of so_far) → IsLawful (catalog_of (record so_far { connection = id_of so_far.collations name }))
+connection_kept : (so_far : Progress) (name : List ℕ) → IsLawfulSoFar (catalog_of so_far) → IsLawfulSoFar (catalog_of (record so_far { connection = id_of so_far.collations name }))
 connection_kept so_far name h = record {
   built_in = h.built_in;
   few_collations = h.few_collations;
@@ -150,7 +150,7 @@ new_table_lawful n name file = record {
 }
 
 -- an entry that begins a table
-table_step : (so_far : Progress) (number : ℕ) (name file : List ℕ) → IsLawful (catalog_of so_far) → first_of (table_tests (tables_of so_far) name) ≡ None → IsLawful (catalog_of (with_entry number so_far (Table name file)))
+table_step : (so_far : Progress) (number : ℕ) (name file : List ℕ) → IsLawfulSoFar (catalog_of so_far) → first_of (table_tests (tables_of so_far) name) ≡ None → IsLawfulSoFar (catalog_of (with_entry number so_far (Table name file)))
 unfolding with_entry
 table_step so_far number name file h e =
     let tables = tables_of so_far in
@@ -169,7 +169,7 @@ table_step so_far number name file h e =
     }
 
 -- The last table may become another lawful one of its name.
-last_kept : (so_far : Progress) (old new : TableDecl) → so_far.last ≡ Some old → IsLawful (catalog_of so_far) → IsLawfulTable (length so_far.collations) new → old.name ≡ new.name → IsLawful (catalog_of (record so_far { last = Some new }))
+last_kept : (so_far : Progress) (old new : TableDecl) → so_far.last ≡ Some old → IsLawfulSoFar (catalog_of so_far) → IsLawfulTable (length so_far.collations) new → old.name ≡ new.name → IsLawfulSoFar (catalog_of (record so_far { last = Some new }))
 last_kept so_far old new e h own same =
     let earlier = so_far.earlier in
     let P = IsLawfulTable (length so_far.collations) in
@@ -189,11 +189,11 @@ last_kept so_far old new e h own same =
     }
 
 -- The last table is lawful.
-pub last_lawful : (so_far : Progress) → IsLawful (catalog_of so_far) → IfSome so_far.last (IsLawfulTable (length so_far.collations))
+pub last_lawful : (so_far : Progress) → IsLawfulSoFar (catalog_of so_far) → IfSome so_far.last (IsLawfulTable (length so_far.collations))
 last_lawful so_far h = (All-pop (IsLawfulTable (length so_far.collations)) (tables_of so_far) so_far.earlier so_far.last refl h.tables).1
 
 -- The last table has few columns.
-pub last_is_small : (so_far : Progress) → IsLawful (catalog_of so_far) → IfSome so_far.last (λ table. length table.columns < 2 ^ 32)
+pub last_is_small : (so_far : Progress) → IsLawfulSoFar (catalog_of so_far) → IfSome so_far.last (λ table. length table.columns < 2 ^ 32)
 last_is_small so_far h = of so_far.last (last_lawful so_far h)
   where
     of : (last : Option TableDecl) → IfSome last (IsLawfulTable (length so_far.collations)) → IfSome last (λ table. length table.columns < 2 ^ 32)
@@ -244,12 +244,12 @@ column_clear collations name form table e =
     three_clear UnknownCollation Repeated TooMany (is_none (type_of collations form)) (list_any (λ column. bytes_eq column.name name) table.columns) (nat_le 32 (length table.columns)) e
 
 -- an entry that adds a column
-column_step : (so_far : Progress) (number : ℕ) (name : List ℕ) (form : ColumnForm) (last : Option TableDecl) → so_far.last ≡ last → IsLawful (catalog_of so_far) → IsFormedColumn form → first_of (tests_in (column_tests so_far.collations name form) last) ≡ None → IsLawful (catalog_of (record so_far { last = option_and_then (with_column so_far.collations name form) last }))
+column_step : (so_far : Progress) (number : ℕ) (name : List ℕ) (form : ColumnForm) (last : Option TableDecl) → so_far.last ≡ last → IsLawfulSoFar (catalog_of so_far) → IsFormedColumn form → first_of (tests_in (column_tests so_far.collations name form) last) ≡ None → IsLawfulSoFar (catalog_of (record so_far { last = option_and_then (with_column so_far.collations name form) last }))
 unfolding with_column
 column_step so_far number name form None is h formed e = absurd (cc)
 column_step so_far number name form (Some table) is h formed e = of (type_of so_far.collations form) refl
   where
-    of : (type : Option ColumnType) → type_of so_far.collations form ≡ type → IsLawful (catalog_of (record so_far { last = option_map (λ type. record table { columns = table.columns ++ record { name = name; ty = type } ∷ [] }) type }))
+    of : (type : Option ColumnType) → type_of so_far.collations form ≡ type → IsLawfulSoFar (catalog_of (record so_far { last = option_map (λ type. record table { columns = table.columns ++ record { name = name; ty = type } ∷ [] }) type }))
     of None f = absurd (let k : true ≡ false = rw f at (column_clear so_far.collations name form table e).0 in cc)
     of (Some type) f =
         let clear = column_clear so_far.collations name form table e in
@@ -303,12 +303,12 @@ index_clear name column prefix table e =
     (list_any (λ index. bytes_eq index.name name) table.indexes) (nat_le 8 (length table.indexes)) e
 
 -- an entry that adds an index
-index_step : (so_far : Progress) (number : ℕ) (name column : List ℕ) (prefix : Option ℕ) (last : Option TableDecl) → so_far.last ≡ last → IsLawful (catalog_of so_far) → first_of (tests_in (index_tests name column prefix) last) ≡ None → IsLawful (catalog_of (record so_far { last = option_and_then (with_index name column prefix) last }))
+index_step : (so_far : Progress) (number : ℕ) (name column : List ℕ) (prefix : Option ℕ) (last : Option TableDecl) → so_far.last ≡ last → IsLawfulSoFar (catalog_of so_far) → first_of (tests_in (index_tests name column prefix) last) ≡ None → IsLawfulSoFar (catalog_of (record so_far { last = option_and_then (with_index name column prefix) last }))
 unfolding with_index
 index_step so_far number name column prefix None is h e = absurd (cc)
 index_step so_far number name column prefix (Some table) is h e = of (indexed_column table.columns column) refl
   where
-    of : (place : Option ℕ) → indexed_column table.columns column ≡ place → IsLawful (catalog_of (record so_far { last = option_map (λ place. record table { indexes = table.indexes ++ record { name = name; column = place; prefix = prefix } ∷ [] }) place }))
+    of : (place : Option ℕ) → indexed_column table.columns column ≡ place → IsLawfulSoFar (catalog_of (record so_far { last = option_map (λ place. record table { indexes = table.indexes ++ record { name = name; column = place; prefix = prefix } ∷ [] }) place }))
     of None f = absurd (let k : true ≡ false = rw f at (index_clear name column prefix table e).0 in cc)
     of (Some place) f =
         let clear = index_clear name column prefix table e in
@@ -318,7 +318,7 @@ index_step so_far number name column prefix (Some table) is h e = of (indexed_co
         last_kept so_far table new is h (index_kept (length so_far.collations) table index own (index_lawful table.columns name column prefix place f clear.1) clear.2 (below 8 (length table.indexes) clear.3)) refl
 
 -- A lawful catalog stays lawful with an entry that has no fault.
-pub lawful_entry : (number : ℕ) (so_far : Progress) (entry : Entry) → IsLawful (catalog_of so_far) → IsFormed entry → first_of (tests_of so_far entry) ≡ None → IsLawful (catalog_of (with_entry number so_far entry))
+pub lawful_entry : (number : ℕ) (so_far : Progress) (entry : Entry) → IsLawfulSoFar (catalog_of so_far) → IsFormed entry → first_of (tests_of so_far entry) ≡ None → IsLawfulSoFar (catalog_of (with_entry number so_far entry))
 unfolding with_entry
 lawful_entry number so_far (Collation name set kind file rules) h formed e = collation_step so_far name set kind file rules h formed e
 lawful_entry number so_far (Connection name) h formed e = connection_kept so_far name h
@@ -327,6 +327,6 @@ lawful_entry number so_far (Column name form) h formed e = column_step so_far nu
 lawful_entry number so_far (Index name column prefix) h formed e = index_step so_far number name column prefix so_far.last refl h e
 
 -- The same of an entry that was added, if it was.
-pub lawful_added : (number : ℕ) (so_far : Progress) (entry : Entry) (new : Progress) (answer : Result (Unit {0}) CatalogFaultKind) → IsLawful (catalog_of so_far) → IsFormed entry → OnOk answer (first_of (tests_of so_far entry) ≡ None) → OnOk answer (new ≡ with_entry number so_far entry) → OnOk answer (IsLawful (catalog_of new))
+pub lawful_added : (number : ℕ) (so_far : Progress) (entry : Entry) (new : Progress) (answer : Result (Unit {0}) CatalogFaultKind) → IsLawfulSoFar (catalog_of so_far) → IsFormed entry → OnOk answer (first_of (tests_of so_far entry) ≡ None) → OnOk answer (new ≡ with_entry number so_far entry) → OnOk answer (IsLawfulSoFar (catalog_of new))
 lawful_added number so_far entry new (Ok _) h formed clear added = rw added (lawful_entry number so_far entry h formed clear)
 lawful_added number so_far entry new (Err fault) h formed clear added = tt

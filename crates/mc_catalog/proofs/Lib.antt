@@ -1,6 +1,6 @@
 pub mod PlainLawful
-pub mod Sets
 pub mod Lists
 pub mod LawfulSteps
 pub mod LinesRead
 pub mod OneOutcome
+pub mod OutcomeLemmas

@@ -6,11 +6,11 @@ use Rattle.mc_base.specs.FirstFault.{HasNoFault, IsFirstFault}
 use Rattle.mc_base.proofs.FirstFaultLemmas.{no_fault-none, no_fault-more, first_fault-behind}
 use Rattle.mc_catalog.specs.declared.fault.CatalogFaultKind.{CatalogFaultKind}
 use Rattle.mc_catalog.specs.declared.fault.CatalogFaultKind.TheVariants.{BadLine, UnknownCharset, UnknownKind, WrongCharset, UnknownCollation, UnknownColumn, BadLength, Repeated, TooMany, NoColumn, NoMemory}
-use Rattle.mc_catalog.specs.Lawful.{IsLawful}
+use Rattle.mc_catalog.specs.Lawful.{IsLawfulSoFar}
 use Rattle.mc_catalog.specs.Entries.{entry_of}
 use Rattle.mc_catalog.specs.Progress.{Progress, nothing_said, with_line, said_by, catalog_of}
 use Rattle.mc_catalog.specs.CatalogFaults.{kind_of_fault, fault_of, line_told, IsRefused, IsCausedBy, IsEndFault}
-use Rattle.mc_catalog.proofs.PlainLawful.{plain_lawful}
+use Rattle.mc_catalog.proofs.PlainLawful.{plain_so_far}
 
 -- lines of a catalog: number and body
 abbrev pub Lines : Type 0
@@ -22,16 +22,16 @@ pub record HasRead (all rest : Lines) (said : Progress) : Type 0 where
   pub split : all ≡ taken ++ rest
   pub no_fault : HasNoFault fault_of taken
   pub value : said ≡ said_by taken
-  pub lawful : IsLawful (catalog_of said)
+  pub lawful : IsLawfulSoFar (catalog_of said)
 
 pub none_read : (all : Lines) → HasRead all all nothing_said
-none_read all = record { taken = []; split = refl; no_fault = no_fault-none fault_of; value = refl; lawful = plain_lawful }
+none_read all = record { taken = []; split = refl; no_fault = no_fault-none fault_of; value = refl; lawful = plain_so_far }
 
 -- a line without a fault has none beside the lines before it
 without_fault : (before : Lines) (line : ℕ × List ℕ) → kind_of_fault (said_by before) (entry_of line.1) ≡ None → fault_of before line ≡ None
 without_fault before line e = ap (option_map (λ kind. record { kind = kind; line = line.0 })) e
 
-pub one_read : (all before after : Lines) (line : ℕ × List ℕ) (said new : Progress) → HasRead all before said → before ≡ line ∷ after → kind_of_fault said (entry_of line.1) ≡ None → new ≡ with_line said line → IsLawful (catalog_of new) → HasRead all after new
+pub one_read : (all before after : Lines) (line : ℕ × List ℕ) (said new : Progress) → HasRead all before said → before ≡ line ∷ after → kind_of_fault said (entry_of line.1) ≡ None → new ≡ with_line said line → IsLawfulSoFar (catalog_of new) → HasRead all after new
 one_read all before after line said new read split clear added lawful = record {
   taken = read.taken ++ line ∷ [];
   split = read.split ∙ ap (λ rest. read.taken ++ rest) split ∙ sym (append_assoc read.taken (line ∷ []) after);

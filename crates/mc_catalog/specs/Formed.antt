@@ -1,8 +1,11 @@
 -- What the form of a line alone makes sure of: lengths within the limits, rules where they may be.
 use Rattle.std.specs.Prelude.{◌≤◌, ⊤, IsTrue, IfSome}
+use Rattle.mc_catalog.specs.Limits.{longest_char, longest_varchar}
 use Rattle.mc_catalog.specs.Entries.{may_have_rules}
 use Rattle.mc_catalog.specs.declared.catalog.ColumnType.{ColumnType}
-use Rattle.mc_catalog.specs.declared.catalog.ColumnType.TheVariants.{BigInt, Binary, VarBinary, Char as TypeChar, VarChar as TypeVarChar}
+use Rattle.mc_catalog.specs.declared.catalog.ColumnType.TheVariants.{BigInt, Binary, VarBinary}
+use Rattle.mc_catalog.specs.declared.catalog.ColumnType.TheVariants.{Char as TypeChar}
+use Rattle.mc_catalog.specs.declared.catalog.ColumnType.TheVariants.{VarChar as TypeVarChar}
 use Rattle.mc_catalog.specs.declared.entry.ColumnForm.{ColumnForm}
 use Rattle.mc_catalog.specs.declared.entry.ColumnForm.TheVariants.{Plain, Char, VarChar}
 use Rattle.mc_catalog.specs.declared.entry.Entry.{Entry}
@@ -11,16 +14,16 @@ use Rattle.mc_catalog.specs.declared.entry.Entry.TheVariants.{Collation, Column}
 -- A type without a collation has a length within its limit.
 abbrev pub IsFormedType : ColumnType → Type 0
 IsFormedType BigInt = ⊤
-IsFormedType (Binary n) = (1 ≤ n) × (n ≤ 255)
-IsFormedType (VarBinary n) = (1 ≤ n) × (n ≤ 4096)
+IsFormedType (Binary n) = (1 ≤ n) × (n ≤ longest_char)
+IsFormedType (VarBinary n) = (1 ≤ n) × (n ≤ longest_varchar)
 IsFormedType (TypeChar n coll) = ⊥
 IsFormedType (TypeVarChar n coll) = ⊥
 
 -- The type of a column has a length within its limit.
 abbrev pub IsFormedColumn : ColumnForm → Type 0
 IsFormedColumn (Plain type) = IsFormedType type
-IsFormedColumn (Char n collation) = (1 ≤ n) × (n ≤ 255)
-IsFormedColumn (VarChar n collation) = (1 ≤ n) × (n ≤ 4096)
+IsFormedColumn (Char n collation) = (1 ≤ n) × (n ≤ longest_char)
+IsFormedColumn (VarChar n collation) = (1 ≤ n) × (n ≤ longest_varchar)
 
 -- An entry has a length within its limit, and rules only where its kind takes them.
 abbrev pub IsFormed : Entry → Type 0

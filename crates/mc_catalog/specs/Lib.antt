@@ -1,8 +1,11 @@
+pub mod Limits
 pub mod BuiltIn
 pub mod LookUp
+pub mod Fits
 pub mod Lawful
 pub mod Words
 pub mod Entries
 pub mod Formed
 pub mod Progress
 pub mod CatalogFaults
+pub mod Outcome

@@ -1,50 +1,62 @@
--- The words of a catalog's lines: names, decimal numbers, character sets and kinds of collations.
-use Rattle.std.specs.Prelude.{ℕ, ◌+◌, ◌-◌, ◌*◌, ◌==◌, ◌&&◌, ◌||◌, min, nat_le, Bool, false, not, List, [], ◌∷◌, length, map, fold, codes, Option, None, Some, option_map, if◌then◌else◌}
+-- The words of a catalog's lines: names, decimal numbers and kinds of collations.
+use Rattle.std.specs.Prelude.{ℕ, ◌+◌, ◌-◌, ◌*◌, ◌==◌, ◌&&◌, ◌||◌, min, nat_le, Bool, false, not}
+use Rattle.std.specs.Prelude.{List, [], ◌∷◌, length, map, fold, codes, Option, None, Some}
+use Rattle.std.specs.Prelude.{option_map, if◌then◌else◌}
 use Rattle.std.specs.List.{find, list_all}
 use Rattle.std.specs.Char.{is_ascii_alphanumeric, is_ascii_digit, to_ascii_lowercase}
 use Rattle.std.specs.Str.{bytes_eq}
-use Rattle.mc_charset.specs.declared.charset.Charset.{Charset}
-use Rattle.mc_charset.specs.declared.charset.Charset.TheVariants.{Latin1, Ascii, Utf8mb3, Utf8mb4, Ucs2, Utf16, Utf32, Binary}
+use Rattle.mc_catalog.specs.Limits.{greatest_number, longest_name}
 use Rattle.mc_catalog.specs.declared.catalog.Kind.{Kind}
-use Rattle.mc_catalog.specs.declared.catalog.Kind.TheVariants.{Table8, General, Uca400, Uca520, Uca900AiCi, Uca900AsCi, Uca900AsCs}
+use Rattle.mc_catalog.specs.declared.catalog.Kind.TheVariants.{Table8, General, Uca400, Uca520}
+use Rattle.mc_catalog.specs.declared.catalog.Kind.TheVariants.{Uca900AiCi, Uca900AsCi, Uca900AsCs}
 
--- a letter, a digit, `_` or `$`
+-- The bytes `_`, `$` and `0`.
+abbrev pub underscore : ℕ
+underscore = 0x5F
+
+abbrev pub dollar : ℕ
+dollar = 0x24
+
+abbrev pub digit_zero : ℕ
+digit_zero = 0x30
+
+-- A letter, a digit, `_` or `$`.
 abbrev pub is_name_byte : ℕ → Bool
-is_name_byte byte = is_ascii_alphanumeric byte || byte == 0x5F || byte == 0x24
+is_name_byte byte = is_ascii_alphanumeric byte || byte == underscore || byte == dollar
 
--- whether a text's first byte is a digit
+-- Whether a text's first byte is a digit.
 abbrev pub begins_with_digit : List ℕ → Bool
 begins_with_digit [] = false
 begins_with_digit (byte ∷ bytes) = is_ascii_digit byte
 
--- whether a field is a name: 1 to 64 letters, digits, `_` or `$`, the first of them no digit
+-- Whether a field is a name: 1 to 64 letters, digits, `_` or `$`, the first of them no digit.
 abbrev pub is_name : List ℕ → Bool
 is_name field =
-    nat_le 1 (length field) && nat_le (length field) 64 && not (begins_with_digit field) && list_all is_name_byte field
+    nat_le 1 (length field) && nat_le (length field) longest_name && not (begins_with_digit field) && list_all is_name_byte field
 
--- the name that a field is, in lower case
-unfoldable pub name_of : List ℕ → Option (List ℕ)
-name_of field = if is_name field then Some (map to_ascii_lowercase field) else None
+-- The name that a field is, in lower case.
+unfoldable pub field_name : List ℕ → Option (List ℕ)
+field_name field = if is_name field then Some (map to_ascii_lowercase field) else None
 
--- whether a text's first byte is the digit 0
+-- Whether a text's first byte is the digit 0.
 abbrev pub begins_with_zero : List ℕ → Bool
 begins_with_zero [] = false
-begins_with_zero (byte ∷ bytes) = byte == 0x30
+begins_with_zero (byte ∷ bytes) = byte == digit_zero
 
--- whether a field is a decimal number: digits, with no 0 before another one
+-- Whether a field is a decimal number: digits, with no 0 before another one.
 abbrev pub is_decimal : List ℕ → Bool
 is_decimal field =
     nat_le 1 (length field) && not (begins_with_zero field && nat_le 2 (length field)) && list_all is_ascii_digit field
 
--- the value of decimal digits
+-- The value of decimal digits.
 abbrev pub decimal_value : List ℕ → ℕ
-decimal_value digits = fold (λ value digit. 10 * value + (digit - 0x30)) 0 digits
+decimal_value digits = fold (λ value digit. 10 * value + (digit - digit_zero)) 0 digits
 
--- the number that a field is; one above 65535, which is above each length, counts as that
+-- The number that a field is; one above 65535, which is above each length, counts as that.
 unfoldable pub decimal_of : List ℕ → Option ℕ
-decimal_of field = if is_decimal field then Some (min 65535 (decimal_value field)) else None
+decimal_of field = if is_decimal field then Some (min greatest_number (decimal_value field)) else None
 
--- the length that a field is, from 1 to a limit
+-- The length that a field is, from 1 to a limit.
 unfoldable pub length_of : ℕ → List ℕ → Option ℕ
 length_of limit field = if_within (decimal_of field)
   where
@@ -52,20 +64,11 @@ length_of limit field = if_within (decimal_of field)
     if_within None = None
     if_within (Some n) = if nat_le 1 n && nat_le n limit then Some n else None
 
--- the words of the kinds
+-- The words of the kinds.
 abbrev pub kind_words : List (List ℕ × Kind)
 kind_words = (codes "table8", Table8) ∷ (codes "general", General) ∷ (codes "uca400", Uca400) ∷ (codes "uca520", Uca520)
     ∷ (codes "uca900_ai_ci", Uca900AiCi) ∷ (codes "uca900_as_ci", Uca900AsCi) ∷ (codes "uca900_as_cs", Uca900AsCs) ∷ []
 
--- the kind that a field names
+-- The kind that a field names.
 unfoldable pub kind_of : List ℕ → Option Kind
 kind_of field = option_map (λ row. row.1) (find (λ row. bytes_eq field row.0) kind_words)
-
--- the names of the sets
-abbrev pub set_words : List (List ℕ × Charset)
-set_words = (codes "latin1", Latin1) ∷ (codes "ascii", Ascii) ∷ (codes "utf8", Utf8mb3) ∷ (codes "utf8mb3", Utf8mb3)
-    ∷ (codes "utf8mb4", Utf8mb4) ∷ (codes "ucs2", Ucs2) ∷ (codes "utf16", Utf16) ∷ (codes "utf32", Utf32) ∷ (codes "binary", Binary) ∷ []
-
--- the set that a field names, the case of A to Z ignored: MySQL 8.0 manual, 10.2
-unfoldable pub set_of : List ℕ → Option Charset
-set_of field = option_map (λ row. row.1) (find (λ row. bytes_eq (map to_ascii_lowercase field) row.0) set_words)

@@ -1,11 +1,47 @@
-ghost use Rattle.std.specs.Prelude.{◌≡◌, ◌<◌, ◌^◌, [], ◌∷◌, ◌++◌, length, false, IfSome, IfOk, IfErr, OnOk};
+ghost use Rattle.std.specs.Prelude.{
+  ◌≡◌,
+  ◌<◌,
+  ◌^◌,
+  [],
+  ◌∷◌,
+  ◌++◌,
+  length,
+  false,
+  IfSome,
+  IfOk,
+  IfErr,
+  OnOk,
+};
 ghost use Rattle.std.specs.List.{list_any};
 ghost use Rattle.std.specs.Str.{bytes_eq};
 ghost use Rattle.std.specs.Option.{option_and_then, option_to_list};
-ghost use Rattle.mc_catalog.specs.Progress.{nothing_said, tables_of, declared_of, id_of, with_column, with_index, with_entry, with_line, catalog_of};
-ghost use Rattle.mc_catalog.specs.Lawful.{IsLawful};
+ghost use Rattle.mc_catalog.specs.Progress.{
+  nothing_said,
+  tables_of,
+  declared_of,
+  id_of,
+  with_column,
+  with_index,
+  with_entry,
+  with_line,
+  catalog_of,
+};
+ghost use Rattle.mc_catalog.specs.Lawful.{IsLawfulSoFar};
 ghost use Rattle.mc_catalog.specs.Entries.{entry_of};
-ghost use Rattle.mc_catalog.specs.CatalogFaults.{first_of, collation_tests, connection_tests, table_tests, column_tests, index_tests, tests_in, tests_of, kind_of_fault, bare_place, IsCausedBy, IsEndFault};
+ghost use Rattle.mc_catalog.specs.CatalogFaults.{
+  first_of,
+  collation_tests,
+  connection_tests,
+  table_tests,
+  column_tests,
+  index_tests,
+  tests_in,
+  tests_of,
+  kind_of_fault,
+  bare_place,
+  IsCausedBy,
+  IsEndFault,
+};
 
 use crate::catalog::{Catalog, CollDecl, Kind, TableDecl};
 use crate::entry::{ColumnForm, Entry};
@@ -73,10 +109,10 @@ impl CatalogBuilder {
         number: u32,
         body: &[u8],
     ) -> Result<(), CatalogFaultKind>
-        requires { IsLawful (catalog_of self.old) }
+        requires { IsLawfulSoFar (catalog_of self.old) }
         ensures ok { OnOk result (kind_of_fault self.old (entry_of body.now) ≡ None) }
         ensures added { OnOk result (self.new ≡ with_line self.old (number, body.now)) }
-        ensures lawful { OnOk result (IsLawful (catalog_of self.new)) }
+        ensures lawful { OnOk result (IsLawfulSoFar (catalog_of self.new)) }
         ensures err { IfErr result (λ kind. IsCausedBy kind (kind_of_fault self.old (entry_of body.now))) }
     {
         match read_entry(alloc, body)? {
@@ -93,7 +129,7 @@ impl CatalogBuilder {
         number: u32,
         entry: Entry,
     ) -> Result<(), CatalogFaultKind>
-        requires { IsLawful (catalog_of self.old) }
+        requires { IsLawfulSoFar (catalog_of self.old) }
         ensures ok { OnOk result (first_of (tests_of self.old entry) ≡ None) }
         ensures added { OnOk result (self.new ≡ with_entry number self.old entry) }
         ensures err { IfErr result (λ kind. IsCausedBy kind (first_of (tests_of self.old entry))) }

@@ -1,6 +1,8 @@
 ghost use Rattle.std.specs.Prelude.{◌≡◌};
 ghost use Rattle.mc_catalog.specs.CatalogFaults.{line_told};
-ghost use Rattle.mc_catalog.specs.declared.fault.CatalogFaultKind.TheVariants.{NoMemory as OutOfMemory};
+ghost use Rattle.mc_catalog.specs.declared.fault.CatalogFaultKind.TheVariants.{
+  NoMemory as OutOfMemory,
+};
 
 use mc_base::NoMemory;
 

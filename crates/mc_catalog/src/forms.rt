@@ -3,14 +3,31 @@ ghost use Rattle.std.specs.List.{list_all};
 ghost use Rattle.std.specs.Option.{option_and_then};
 ghost use Rattle.std.specs.Char.{is_ascii};
 ghost use Rattle.mc_base.specs.Fields.{fields_of};
-ghost use Rattle.mc_catalog.specs.Words.{name_of, set_of, length_of};
+ghost use Rattle.mc_charset.specs.Names.{set_named};
+ghost use Rattle.mc_catalog.specs.Words.{field_name, length_of};
 ghost use Rattle.mc_catalog.specs.Formed.{IsFormed, IsFormedColumn};
-ghost use Rattle.mc_catalog.specs.Entries.{may_have_rules, rules_part, collation_entry, connection_entry, table_entry, whole_form, binary_form, text_form, column_form, column_entry, prefix_part, index_entry, entry_in, entry_of};
+ghost use Rattle.mc_catalog.specs.Entries.{
+  may_have_rules,
+  rules_part,
+  collation_entry,
+  connection_entry,
+  table_entry,
+  whole_form,
+  binary_form,
+  text_form,
+  column_form,
+  column_entry,
+  prefix_part,
+  index_entry,
+  entry_in,
+  entry_of,
+};
 
 use crate::entry::{ColumnForm, Entry};
-use crate::words::{read_kind, read_length, read_name, read_number, read_set};
+use crate::words::{read_kind, read_length, read_name, read_number};
 use crate::{ColumnType, Kind};
 use mc_base::{NoMemory, Text, next_field};
+use mc_charset::charset_by_name;
 use std::alloc::Global;
 
 /// The entry that a line's body says; None where it has a byte above 7F, or another form.
@@ -88,7 +105,7 @@ fn declared_entry(
     rest: &[u8],
 ) -> Result<Option<Entry>, NoMemory>
     ensures value { IfOk result (λ entry. entry ≡ option_and_then
-        (λ rules. option_map (λ name. Entry.Collation name (set_of set.now) kind file.now rules) (name_of name.now))
+        (λ rules. option_map (λ name. Entry.Collation name (set_named set.now) kind file.now rules) (field_name name.now))
         (rules_part kind (fields_of rest.now))) }
     ensures formed { IfOk result (λ entry. IfSome entry IsFormed) }
 {
@@ -100,7 +117,7 @@ fn declared_entry(
     };
     Ok(Some(Entry::Collation {
         name,
-        set: read_set(set),
+        set: charset_by_name(set),
         kind,
         file: Text::from_slice(alloc, file)?,
         rules,

@@ -1,5 +1,5 @@
 ghost use Rattle.std.specs.Prelude.{◌≡◌, ◌^◌, ◌<◌, length, option_map, IfSome};
-ghost use Rattle.mc_catalog.specs.LookUp.{number_of, usual_name, IsUsual};
+ghost use Rattle.mc_catalog.specs.LookUp.{collation_set, number_of, usual_name, IsUsual};
 
 use crate::{Catalog, CollDecl};
 use mc_charset::{Charset, CollId, bin_of};
@@ -13,6 +13,14 @@ pub fn find_collation(catalog: &Catalog, name: &[u8]) -> Option<CollId>
         Some(place) => Some(CollId(place as u32)),
         None => None,
     }
+}
+
+/// The set of the collation of a number.
+pub fn collation_set(catalog: &Catalog, id: CollId) -> Charset
+    requires { id.0 < length catalog.now.collations }
+    ensures { result ≡ collation_set catalog.now.collations id.0 }
+{
+    catalog.collations.as_slice()[id.0 as usize].charset
 }
 
 /// The usual collation of a set, as `utf8mb4_0900_ai_ci` of utf8mb4, where the catalog declares it

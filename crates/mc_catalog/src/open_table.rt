@@ -1,8 +1,22 @@
 ghost use Rattle.std.specs.Prelude.{◌≡◌, ◌<◌, ◌^◌, [], length, IfOk, IfErr, OnOk, None, Some};
 ghost use Rattle.std.specs.Option.{option_and_then};
 ghost use Rattle.mc_catalog.specs.Lawful.{width_of};
-ghost use Rattle.mc_catalog.specs.Progress.{id_of, type_of, width_at, indexed_column, with_column, with_index};
-ghost use Rattle.mc_catalog.specs.CatalogFaults.{first_of, column_tests, index_tests, indexed_width, is_bad_length, IsCausedBy};
+ghost use Rattle.mc_catalog.specs.Progress.{
+  id_of,
+  type_of,
+  width_at,
+  indexed_column,
+  with_column,
+  with_index,
+};
+ghost use Rattle.mc_catalog.specs.CatalogFaults.{
+  first_of,
+  column_tests,
+  index_tests,
+  indexed_width,
+  is_bad_length,
+  IsCausedBy,
+};
 
 use crate::catalog::{CollDecl, ColumnDecl, ColumnType, IndexDecl, TableDecl};
 use crate::entry::ColumnForm;

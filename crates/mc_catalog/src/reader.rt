@@ -1,9 +1,23 @@
-ghost use Rattle.std.specs.Prelude.{◌≡◌, ◌<◌, ◌^◌, length, IfOk, IfErr, OnOk};
+ghost use Rattle.std.specs.Prelude.{
+  ◌≡◌,
+  ◌≢◌,
+  ◌<◌,
+  ◌^◌,
+  Ok,
+  Err,
+  length,
+  IfOk,
+  IfErr,
+  OnOk,
+  MatchResult,
+};
 ghost use Rattle.mc_base.specs.Lines.{lines_of};
 ghost use Rattle.mc_base.specs.FirstFault.{HasNoFault};
-ghost use Rattle.mc_catalog.specs.Lawful.{IsLawful};
+ghost use Rattle.mc_catalog.specs.Lawful.{IsLawful, IsLawfulSoFar};
 ghost use Rattle.mc_catalog.specs.Progress.{nothing_said, said_by, catalog_of};
 ghost use Rattle.mc_catalog.specs.CatalogFaults.{fault_of, IsAccepted, IsRefused};
+ghost use Rattle.mc_catalog.specs.Outcome.{catalog_outcome};
+ghost use Rattle.mc_catalog.specs.declared.fault.CatalogFaultKind.{CatalogFaultKind};
 
 use crate::builder::CatalogBuilder;
 use crate::{Catalog, CatalogFault};
@@ -17,6 +31,19 @@ pub fn read_catalog(alloc: Global, text: &[u8]) -> Result<Catalog, CatalogFault>
     ensures accepted { IfOk result (λ catalog. IsAccepted (lines_of text.now)) }
     ensures value { IfOk result (λ catalog. catalog ≡ catalog_of (said_by (lines_of text.now))) }
     ensures lawful { IfOk result IsLawful }
+    ensures refused { IfErr result (λ fault. IsRefused (lines_of text.now) fault.kind fault.line) }
+    ensures outcome { MatchResult result (λ catalog. catalog_outcome text.now ≡ Ok catalog)
+        (λ fault. fault.kind ≢ CatalogFaultKind.NoMemory → catalog_outcome text.now ≡ Err fault) }
+{
+    read_text(alloc, text)
+}
+
+/// The catalog that a text says, line by line.
+fn read_text(alloc: Global, text: &[u8]) -> Result<Catalog, CatalogFault>
+    requires { length text.now < 2 ^ 32 }
+    ensures accepted { IfOk result (λ catalog. IsAccepted (lines_of text.now)) }
+    ensures value { IfOk result (λ catalog. catalog ≡ catalog_of (said_by (lines_of text.now))) }
+    ensures lawful { IfOk result IsLawfulSoFar }
     ensures refused { IfErr result (λ fault. IsRefused (lines_of text.now) fault.kind fault.line) }
 {
     let mut builder = CatalogBuilder::new(alloc)?;
@@ -37,7 +64,7 @@ fn read_all(builder: &mut CatalogBuilder, alloc: Global, text: &[u8]) -> Result<
     ensures accepted { OnOk result (IsAccepted (lines_of text.now)) }
     ensures ended { OnOk result (builder.new.last ≡ None) }
     ensures value { OnOk result (catalog_of builder.new ≡ catalog_of (said_by (lines_of text.now))) }
-    ensures lawful { OnOk result (IsLawful (catalog_of builder.new)) }
+    ensures lawful { OnOk result (IsLawfulSoFar (catalog_of builder.new)) }
     ensures refused { IfErr result (λ fault. IsRefused (lines_of text.now) fault.kind fault.line) }
 {
     read_lines(builder, alloc, text)?;
@@ -50,7 +77,7 @@ fn read_lines(builder: &mut CatalogBuilder, alloc: Global, text: &[u8]) -> Resul
     requires fresh { builder.old ≡ nothing_said }
     ensures accepted { OnOk result (HasNoFault fault_of (lines_of text.now)) }
     ensures value { OnOk result (builder.new ≡ said_by (lines_of text.now)) }
-    ensures lawful { OnOk result (IsLawful (catalog_of builder.new)) }
+    ensures lawful { OnOk result (IsLawfulSoFar (catalog_of builder.new)) }
     ensures refused { IfErr result (λ fault. IsRefused (lines_of text.now) fault.kind fault.line) }
 {
     let mut lines = LineReader::new(text);

@@ -1,20 +1,28 @@
 ghost use Rattle.std.specs.Prelude.{◌≡◌, ◌≤◌, IfSome, IfOk, map, min, true};
 ghost use Rattle.std.specs.Char.{is_ascii_digit, to_ascii_lowercase};
 ghost use Rattle.std.specs.List.{list_all};
-ghost use Rattle.mc_catalog.specs.Words.{is_name_byte, is_name, name_of, is_decimal, decimal_value, decimal_of, length_of, kind_of, set_of};
+ghost use Rattle.mc_catalog.specs.Words.{
+  is_name_byte,
+  is_name,
+  field_name,
+  is_decimal,
+  decimal_value,
+  decimal_of,
+  length_of,
+  kind_of,
+};
 
 use crate::Kind;
 use mc_base::{NoMemory, Text};
-use mc_charset::{Charset, charset_by_name};
 use std::alloc::Global;
 
 /// The greatest number that is told apart: each length is smaller.
 const GREATEST: u32 = 65_535;
 
 /// The name that a field is, in lower case; None where it is none.
-#[tactic(auto, unfolding(crate::specs::Words::name_of))]
+#[tactic(auto, unfolding(crate::specs::Words::field_name))]
 pub(crate) fn read_name(alloc: Global, field: &[u8]) -> Result<Option<Text>, NoMemory>
-    ensures { IfOk result (λ name. name ≡ name_of field.now) }
+    ensures { IfOk result (λ name. name ≡ field_name field.now) }
 {
     if !is_name(field) {
         return Ok(None);
@@ -134,11 +142,4 @@ pub(crate) fn read_kind(field: &[u8]) -> Option<Kind>
     } else {
         None
     }
-}
-
-/// The set that a field names.
-pub(crate) fn read_set(field: &[u8]) -> Option<Charset>
-    ensures { result ≡ set_of field.now }
-{
-    charset_by_name(field)
 }

@@ -1,3 +1,4 @@
+ghost use Rattle.mc_order.specs.Meaning.{Meaning};
 ghost use Rattle.std.specs.Prelude.{◌≡◌, ◌<◌, ℕ};
 
 use crate::Collation;
@@ -7,7 +8,8 @@ use mc_charset::CollId;
 pub trait Book {
     type C: Collation;
 
-    ghost collation: { Self → ℕ → Self.C };
+    // What the collation of a number means.
+    ghost meaning: { Self → ℕ → Meaning };
 
     ghost count: { Self → ℕ };
 
@@ -18,5 +20,5 @@ pub trait Book {
     /// The collation of a number.
     fn by_id(&self, id: CollId) -> &Self::C
         requires { id.0 < count self.now }
-        ensures { result.now ≡ collation self.now id.0 };
+        ensures { Self.C.meaning result.now ≡ meaning self.now id.0 };
 }

@@ -2,11 +2,11 @@ pub mod AnsweringSteps
 pub mod CatalogSteps
 pub mod CollationChoice
 pub mod Escapes
-pub mod LiteralSteps
-pub mod OpeningSteps
+pub mod Texts
+pub mod OneAnswer
+pub mod Told
 pub mod Reserved
 pub mod RunSteps
-pub mod SetNaming
 pub mod ValueSteps
 pub mod StandardFacts
 pub mod WantedSteps

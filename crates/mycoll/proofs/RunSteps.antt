@@ -1,165 +1,171 @@
--- From what was written to the plan that it carries out.
-use Rattle.std.proofs.Common.{◌≡◌, ℕ, Bool, true, false, List, [], ◌∷◌, Option, Some, None, Result, Ok, Err, IfSome, map, cond, zero, suc, take, refl, sym, ap, ◌∙◌, subst, inl, inr}
-use Rattle.std.proofs.lemmas.List.{append-nil}
-use Rattle.std.proofs.lemmas.List.Folds.{flat_map-map}
-use Rattle.mc_base.specs.Sink.{appended}
-use Rattle.mycoll.specs.Setting.{Setting}
-use Rattle.mycoll.specs.declared.answer.Answer.{Answer}
+-- From what was written to the task that was done.
+use Rattle.std.proofs.Common.{◌≡◌, ℕ, Bool, true, false, List, Option, Some, None, Result, Ok, Err, IfSome, refl, sym, ap, subst, inl, inr}
+use Rattle.std.specs.Option.{option_map}
+use Rattle.mc_base.specs.declared.refusal.FileRefusal.{FileRefusal}
+use Rattle.mc_token.specs.Statements.{statements}
 use Rattle.mycoll.specs.declared.status.Status.{Status}
 use Rattle.mycoll.specs.declared.status.Status.TheVariants.{Done, SomeRefused, Usage, FilesRefused, ReadFault, WriteFault, NoMemory}
 use Rattle.mycoll.specs.declared.output.Stopped.{Stopped}
 use Rattle.mycoll.specs.declared.output.Stopped.TheVariants.{Fault, NoMemory as OutOfMemory}
-use Rattle.mycoll.specs.Answers.{answers, answers_text}
 use Rattle.mycoll.specs.Answering.{AnswersWritten, Written}
-use Rattle.mc_base.specs.declared.refusal.FileRefusal.{FileRefusal}
 use Rattle.mycoll.specs.Outcome.{Accepted, files_outcome, refused_line}
-use Rattle.std.specs.Option.{option_map}
-use Rattle.mycoll.specs.Words.{Named, named_files, usage_line}
-use Rattle.mycoll.specs.Run.{Plan, plan, files_plan, setting_of, whole, one_line, script_plan, HasWritten, IsComplete, ReadCause, WriteCause, answered_status, line_status}
-use Rattle.mycoll.proofs.AnsweringSteps.{appended-nil}
+use Rattle.mycoll.specs.Run.{Task, accepted_state, accepted_world, task, files_task, HasWritten, LineWritten, ScriptWritten, IsComplete, ReadCause, WriteCause, answered_status, line_status}
+use Rattle.mycoll.specs.Run.Task.{one_line, script_task}
+use Rattle.mycoll.specs.Words.{FileNames, named_files, usage_line}
+use Rattle.mycoll.specs.World.{World, State}
+use Rattle.mycoll.proofs.AnsweringSteps.{none_so_far, stopped_before}
 
-whole-texts : (all : List Answer)
-    → answers_text all ≡ whole (map (λ (answer : Answer). answer.text) all)
-whole-texts all =
-    sym (flat_map-map (λ (part : List ℕ). part) (λ (answer : Answer). answer.text) all)
+-- The contents of files, if they are told.
+abbrev Told : Type 0
+Told = Option (List ℕ → Option (List ℕ))
 
-take-texts : (n : ℕ) (all : List Answer)
-    → map (λ (answer : Answer). answer.text) (take n all) ≡ take n (map (λ (answer : Answer). answer.text) all)
-take-texts zero all = refl
-take-texts (suc n) [] = refl
-take-texts (suc n) (a ∷ all) = ap (λ xs. a.text ∷ xs) (take-texts n all)
+-- The answers that were written are those of the script.
+script_written : (w : World) (s : State) (script : List ℕ) (r : Result Bool Stopped) (before after : Option (List ℕ))
+    → AnswersWritten w s script r before after → ScriptWritten w s script (answered_status r) before after
+script_written w s script (Ok true) before after h = h
+script_written w s script (Ok false) before after h = h
+script_written w s script (Err Fault) before after h = h
+script_written w s script (Err OutOfMemory) before after h = h
 
--- The answers that were written carry out the plan of their script.
-pub answers_carried : (m : Setting) (script : List ℕ) (r : Result Bool Stopped) (before after : Option (List ℕ))
-    → AnswersWritten (answers m script) r before after
-    → HasWritten (script_plan m script) (answered_status r) before after
-unfolding script_plan
-answers_carried m script (Ok true) before after h = record {
-  ends = ap (λ b. cond b SomeRefused Done) (sym h.0);
-  written = h.1 ∙ ap (appended before) (whole-texts (answers m script));
-}
-answers_carried m script (Ok false) before after h = record {
-  ends = ap (λ b. cond b SomeRefused Done) (sym h.0);
-  written = h.1 ∙ ap (appended before) (whole-texts (answers m script));
-}
-answers_carried m script (Err Fault) before after h =
-    (h.0, h.1 ∙ ap (λ t. appended before (take h.0 t)) (whole-texts (answers m script)))
-answers_carried m script (Err OutOfMemory) before after h = (
-  h.0,
-  h.1 ∙ ap (appended before) (whole-texts (take h.0 (answers m script))
-      ∙ ap whole (take-texts h.0 (answers m script))),
-)
+-- The usage line was written so.
+usage_written : (line : List ℕ) (r : Result (Unit {0}) Stopped) (before after : Option (List ℕ))
+    → Written line r before after → LineWritten line Usage (line_status Usage r) before after
+usage_written line (Ok _) before after h = record { ends = refl; written = h }
+usage_written line (Err Fault) before after h = h
+usage_written line (Err OutOfMemory) before after h = h
 
--- A line that was written carries out a plan of one line.
-pub usage_carried : (line : List ℕ) (r : Result (Unit {0}) Stopped) (before after : Option (List ℕ))
-    → Written line r before after
-    → HasWritten (one_line line Usage) (line_status Usage r) before after
-usage_carried line (Ok _) before after h = record {
-  ends = refl;
-  written =
-      h ∙ ap (appended before) (sym (append-nil line));
-}
-usage_carried line (Err Fault) before after h =
-    (h.0, h.1 ∙ ap (λ t. appended before (take h.0 t)) (sym (append-nil line)))
-usage_carried line (Err OutOfMemory) before after h = (0, h ∙ sym (appended-nil before))
+-- The line of a refused file was written so.
+refusal_written : (line : List ℕ) (r : Result (Unit {0}) Stopped) (before after : Option (List ℕ))
+    → Written line r before after → LineWritten line FilesRefused (line_status FilesRefused r) before after
+refusal_written line (Ok _) before after h = record { ends = refl; written = h }
+refusal_written line (Err Fault) before after h = h
+refusal_written line (Err OutOfMemory) before after h = h
 
-pub refusal_carried : (line : List ℕ) (r : Result (Unit {0}) Stopped) (before after : Option (List ℕ))
-    → Written line r before after
-    → HasWritten (one_line line FilesRefused) (line_status FilesRefused r) before after
-refusal_carried line (Ok _) before after h = record {
-  ends = refl;
-  written =
-      h ∙ ap (appended before) (sym (append-nil line));
-}
-refusal_carried line (Err Fault) before after h =
-    (h.0, h.1 ∙ ap (λ t. appended before (take h.0 t)) (sym (append-nil line)))
-refusal_carried line (Err OutOfMemory) before after h = (0, h ∙ sym (appended-nil before))
+-- Nothing was written where reading failed.
+unread_written : (t : Task) (before : Option (List ℕ)) → HasWritten t ReadFault before before
+unread_written (one_line text ends) before = refl
+unread_written (script_task w s script) before = refl
 
 -- Memory ran out before anything was written.
-pub nothing_carried : (p : Plan) (before : Option (List ℕ)) → HasWritten p NoMemory before before
-nothing_carried p before = (0, sym (appended-nil before))
+lacking_written : (t : Task) (before : Option (List ℕ)) → HasWritten t NoMemory before before
+lacking_written (one_line text ends) before = refl
+lacking_written (script_task w s script) before =
+    stopped_before w s script (statements script 0) s false before before (none_so_far w s script before)
 
--- The plan of the files is that of their outcome.
-plan-accepted : (files : List ℕ → Option (List ℕ)) (named : Named) (accepted : Accepted)
-    → files_outcome files named ≡ Ok accepted → files_plan files named ≡ script_plan (setting_of accepted) accepted.script
-unfolding files_plan
-plan-accepted files named accepted e =
-    ap (λ (o : Result Accepted FileRefusal). elim o as (λ _. Plan) [
-      | Ok a ↦ script_plan (setting_of a) a.script
-      | Err r ↦ one_line (refused_line r) FilesRefused
-    ]) e
+-- The task of the files is that of their outcome.
+abbrev outcome_task : Result Accepted FileRefusal → Task
+outcome_task o = elim o as (λ _. Task) [
+  | Ok accepted ↦ script_task (accepted_world accepted) (accepted_state accepted) accepted.script
+  | Err refusal ↦ one_line (refused_line refusal) FilesRefused
+]
 
-plan-refusal : (files : List ℕ → Option (List ℕ)) (named : Named) (refusal : FileRefusal)
-    → files_outcome files named ≡ Err refusal → files_plan files named ≡ one_line (refused_line refusal) FilesRefused
-unfolding files_plan
-plan-refusal files named refusal e =
-    ap (λ (o : Result Accepted FileRefusal). elim o as (λ _. Plan) [
-      | Ok a ↦ script_plan (setting_of a) a.script
-      | Err r ↦ one_line (refused_line r) FilesRefused
-    ]) e
+task-is : (files : List ℕ → Option (List ℕ)) (named : FileNames) (outcome : Result Accepted FileRefusal)
+    → files_outcome files named ≡ outcome → files_task files named ≡ outcome_task outcome
+unfolding files_task
+task-is files named outcome e = ap outcome_task e
 
 -- Accepted files whose script was answered so.
-pub script_run : (told : Option (List ℕ → Option (List ℕ))) (named : Named) (accepted : Accepted) (r : Result Bool Stopped) (status : Status) (before after : Option (List ℕ))
+pub script_run : (told : Told) (named : FileNames) (accepted : Accepted) (r : Result Bool Stopped) (status : Status) (before after : Option (List ℕ))
     → IfSome told (λ files. files_outcome files named ≡ Ok accepted) → status ≡ answered_status r
-    → AnswersWritten (answers (setting_of accepted) accepted.script) r before after
-    → IfSome told (λ files. HasWritten (files_plan files named) status before after)
+    → AnswersWritten (accepted_world accepted) (accepted_state accepted) accepted.script r before after
+    → IfSome told (λ files. HasWritten (files_task files named) status before after)
 script_run None named accepted r status before after h e w = tt
 script_run (Some files) named accepted r status before after h e w =
-    subst (λ (p : Plan). HasWritten p status before after) (sym (plan-accepted files named accepted h))
-    (subst (λ (s : Status). HasWritten (script_plan (setting_of accepted) accepted.script) s before after) (sym e)
-    (answers_carried (setting_of accepted) accepted.script r before after w))
+    subst (λ (t : Task). HasWritten t status before after) (sym (task-is files named (Ok accepted) h))
+    (subst (λ (s : Status). ScriptWritten (accepted_world accepted) (accepted_state accepted) accepted.script s before after) (sym e)
+    (script_written (accepted_world accepted) (accepted_state accepted) accepted.script r before after w))
 
 -- A refused file whose line was written so.
-pub refusal_run : (told : Option (List ℕ → Option (List ℕ))) (named : Named) (refusal : FileRefusal) (r : Result (Unit {0}) Stopped) (status : Status) (before after : Option (List ℕ))
+pub refusal_run : (told : Told) (named : FileNames) (refusal : FileRefusal) (r : Result (Unit {0}) Stopped) (status : Status) (before after : Option (List ℕ))
     → IfSome told (λ files. files_outcome files named ≡ Err refusal)
     → status ≡ line_status FilesRefused r → Written (refused_line refusal) r before after
-    → IfSome told (λ files. HasWritten (files_plan files named) status before after)
+    → IfSome told (λ files. HasWritten (files_task files named) status before after)
 refusal_run None named refusal r status before after h e w = tt
 refusal_run (Some files) named refusal r status before after h e w =
-    subst (λ (p : Plan). HasWritten p status before after) (sym (plan-refusal files named refusal h))
-    (subst (λ (s : Status). HasWritten (one_line (refused_line refusal) FilesRefused) s before after) (sym e) (refusal_carried (refused_line refusal) r before after w))
+    subst (λ (t : Task). HasWritten t status before after) (sym (task-is files named (Err refusal) h))
+    (subst (λ (s : Status). LineWritten (refused_line refusal) FilesRefused s before after) (sym e)
+    (refusal_written (refused_line refusal) r before after w))
+
+-- Reading a file failed, or memory ran out before anything was written.
+pub unread_run : (told : Told) (named : FileNames) (before after : Option (List ℕ)) → after ≡ before
+    → IfSome told (λ files. HasWritten (files_task files named) ReadFault before after)
+unread_run None named before after e = tt
+unread_run (Some files) named before after e =
+    subst (λ now. HasWritten (files_task files named) ReadFault before now) (sym e) (unread_written (files_task files named) before)
+
+pub lacking_run : (told : Told) (named : FileNames) (before after : Option (List ℕ)) → after ≡ before
+    → IfSome told (λ files. HasWritten (files_task files named) NoMemory before after)
+lacking_run None named before after e = tt
+lacking_run (Some files) named before after e =
+    subst (λ now. HasWritten (files_task files named) NoMemory before now) (sym e) (lacking_written (files_task files named) before)
+
+-- The task of words by the files that they name.
+abbrev words_task : Told → Option FileNames → Option Task
+words_task told o = elim o as (λ _. Option Task) [
+  | None ↦ Some (one_line usage_line Usage)
+  | Some named ↦ option_map (λ (files : List ℕ → Option (List ℕ)). files_task files named) told
+]
 
 -- Words of no form, whose usage line was written so.
-pub usage_run : (told : Option (List ℕ → Option (List ℕ))) (words : List (List ℕ)) (r : Result (Unit {0}) Stopped) (status : Status) (before after : Option (List ℕ))
+pub usage_run : (told : Told) (words : List (List ℕ)) (r : Result (Unit {0}) Stopped) (status : Status) (before after : Option (List ℕ))
     → named_files words ≡ None → status ≡ line_status Usage r → Written usage_line r before after
-    → IfSome (plan told words) (λ p. HasWritten p status before after)
-unfolding plan
+    → IfSome (task told words) (λ t. HasWritten t status before after)
+unfolding task
 usage_run told words r status before after h e w =
-    subst (λ (o : Option Named). IfSome (elim o as (λ _. Option Plan) [ None ↦ Some (one_line usage_line Usage) | Some named ↦ option_map (λ (files : List ℕ → Option (List ℕ)). files_plan files named) told ]) (λ p. HasWritten p status before after)) (sym h)
-    (subst (λ (s : Status). HasWritten (one_line usage_line Usage) s before after) (sym e) (usage_carried usage_line r before after w))
+    subst (λ (o : Option FileNames). IfSome (words_task told o) (λ t. HasWritten t status before after)) (sym h)
+    (subst (λ (s : Status). LineWritten usage_line Usage s before after) (sym e) (usage_written usage_line r before after w))
 
-planned : (told : Option (List ℕ → Option (List ℕ))) (named : Named) (status : Status) (before after : Option (List ℕ))
-    → IfSome told (λ files. HasWritten (files_plan files named) status before after)
-    → IfSome (option_map (λ (files : List ℕ → Option (List ℕ)). files_plan files named) told) (λ p. HasWritten p status before after)
-planned None named status before after h = tt
-planned (Some files) named status before after h = h
+mapped : (told : Told) (named : FileNames) (status : Status) (before after : Option (List ℕ))
+    → IfSome told (λ files. HasWritten (files_task files named) status before after)
+    → IfSome (option_map (λ (files : List ℕ → Option (List ℕ)). files_task files named) told) (λ t. HasWritten t status before after)
+mapped None named status before after h = tt
+mapped (Some files) named status before after h = h
 
 -- Words of a form, whose files were answered so.
-pub named_run : (told : Option (List ℕ → Option (List ℕ))) (words : List (List ℕ)) (named : Named) (status : Status) (before after : Option (List ℕ))
+pub named_run : (told : Told) (words : List (List ℕ)) (named : FileNames) (status : Status) (before after : Option (List ℕ))
     → named_files words ≡ Some named
-    → IfSome told (λ files. HasWritten (files_plan files named) status before after)
-    → IfSome (plan told words) (λ p. HasWritten p status before after)
-unfolding plan
+    → IfSome told (λ files. HasWritten (files_task files named) status before after)
+    → IfSome (task told words) (λ t. HasWritten t status before after)
+unfolding task
 named_run told words named status before after h w =
-    subst (λ (o : Option Named). IfSome (elim o as (λ _. Option Plan) [ None ↦ Some (one_line usage_line Usage) | Some n ↦ option_map (λ (files : List ℕ → Option (List ℕ)). files_plan files n) told ]) (λ p. HasWritten p status before after)) (sym h)
-    (planned told named status before after w)
+    subst (λ (o : Option FileNames). IfSome (words_task told o) (λ t. HasWritten t status before after)) (sym h)
+    (mapped told named status before after w)
 
--- A run that wrote so, and failed only where a device did, ends as its plan does where none did.
-pub complete : (p : Plan) (status : Status) (before after : Option (List ℕ)) (reads reads' writes writes' : ℕ)
-    → HasWritten p status before after → ReadCause status reads reads' before after
-    → WriteCause status writes writes' → IsComplete p status reads reads' writes writes'
-complete p Done before after r r' w w' h c d = λ _ _. inl (sym h.ends)
-complete p SomeRefused before after r r' w w' h c d = λ _ _. inl (sym h.ends)
-complete p Usage before after r r' w w' h c d = λ _ _. inl (sym h.ends)
-complete p FilesRefused before after r r' w w' h c d = λ _ _. inl (sym h.ends)
-complete p ReadFault before after r r' w w' h c d = λ no _. absurd (no c.0)
-complete p WriteFault before after r r' w w' h c d = λ _ no. absurd (no d)
-complete p NoMemory before after r r' w w' h c d = λ _ _. inr refl
+-- A run that wrote so, and failed only where a device did, has done its task where none did.
+complete_line : (text : List ℕ) (ends status : Status) (before after : Option (List ℕ)) (reads reads' writes writes' : ℕ)
+    → LineWritten text ends status before after → ReadCause status reads reads' before after
+    → WriteCause status writes writes' → IsComplete (one_line text ends) status reads reads' writes writes'
+complete_line text ends Done before after r r' w w' h c d = λ _ _. inl (sym h.ends)
+complete_line text ends SomeRefused before after r r' w w' h c d = λ _ _. inl (sym h.ends)
+complete_line text ends Usage before after r r' w w' h c d = λ _ _. inl (sym h.ends)
+complete_line text ends FilesRefused before after r r' w w' h c d = λ _ _. inl (sym h.ends)
+complete_line text ends ReadFault before after r r' w w' h c d = λ no _. absurd (no c.0)
+complete_line text ends WriteFault before after r r' w w' h c d = λ _ no. absurd (no d)
+complete_line text ends NoMemory before after r r' w w' h c d = λ _ _. inr refl
 
-pub complete_told : (told : Option Plan) (status : Status) (before after : Option (List ℕ)) (reads reads' writes writes' : ℕ)
-    → IfSome told (λ p. HasWritten p status before after)
+complete_script : (world : World) (s : State) (script : List ℕ) (status : Status) (before after : Option (List ℕ)) (reads reads' writes writes' : ℕ)
+    → ScriptWritten world s script status before after → ReadCause status reads reads' before after
+    → WriteCause status writes writes' → IsComplete (script_task world s script) status reads reads' writes writes'
+complete_script world s script Done before after r r' w w' h c d = λ _ _. inl (inl refl)
+complete_script world s script SomeRefused before after r r' w w' h c d = λ _ _. inl (inr refl)
+complete_script world s script Usage before after r r' w w' h c d = absurd h
+complete_script world s script FilesRefused before after r r' w w' h c d = absurd h
+complete_script world s script ReadFault before after r r' w w' h c d = λ no _. absurd (no c.0)
+complete_script world s script WriteFault before after r r' w w' h c d = λ _ no. absurd (no d)
+complete_script world s script NoMemory before after r r' w w' h c d = λ _ _. inr refl
+
+complete : (t : Task) (status : Status) (before after : Option (List ℕ)) (reads reads' writes writes' : ℕ)
+    → HasWritten t status before after → ReadCause status reads reads' before after
+    → WriteCause status writes writes' → IsComplete t status reads reads' writes writes'
+complete (one_line text ends) status before after r r' w w' h c d =
+    complete_line text ends status before after r r' w w' h c d
+complete (script_task world s script) status before after r r' w w' h c d =
+    complete_script world s script status before after r r' w w' h c d
+
+pub complete_told : (told : Option Task) (status : Status) (before after : Option (List ℕ)) (reads reads' writes writes' : ℕ)
+    → IfSome told (λ t. HasWritten t status before after)
     → ReadCause status reads reads' before after → WriteCause status writes writes'
-    → IfSome told (λ p. IsComplete p status reads reads' writes writes')
+    → IfSome told (λ t. IsComplete t status reads reads' writes writes')
 complete_told None status before after r r' w w' h c d = tt
-complete_told (Some p) status before after r r' w w' h c d =
-    complete p status before after r r' w w' h c d
+complete_told (Some t) status before after r r' w w' h c d =
+    complete t status before after r r' w w' h c d

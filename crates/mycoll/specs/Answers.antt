@@ -1,138 +1,107 @@
--- The answers to a script's statements: MySQL 8.0 manual, 10.8.1, 12.4.2 and 12.8, and this engine's
--- refusals.
-use Rattle.std.specs.Prelude.{ℕ, Bool, true, false, List, ◌++◌, Option, Some, None, Result, Ok, Err, map, slice_range, if◌then◌else◌, codes, option_and_then}
+-- What the statements of a script are answered with, one behind the other. Each is answered in the
+-- state that the ones before it left.
+use Rattle.std.specs.Prelude.{◌≡◌, ◌⊎◌, ℕ, Bool, true, false, List, [], ◌∷◌, Option, Some, None, Ok}
+use Rattle.std.specs.Prelude.{Err, slice_range, take}
 use Rattle.std.specs.List.{list_any, flat_map}
-use Rattle.std.specs.Option.{option_or}
-use Rattle.std.specs.Ordering.{is_eq}
-use Rattle.mc_base.specs.declared.span.Span.{Span}
 use Rattle.mc_base.specs.declared.refusal.Refusal.{Refusal}
-use Rattle.mc_catalog.specs.LookUp.{number_of}
-use Rattle.mc_charset.specs.Chars.{chars}
-use Rattle.mc_charset.specs.declared.charset.Charset.{Charset}
-use Rattle.mc_charset.specs.declared.collation_id.CollId.{CollId}
-use Rattle.mc_order.specs.Meaning.{Meaning, flat_list}
-use Rattle.mc_order.specs.Order.{list_order}
+use Rattle.mc_base.specs.declared.span.Span.{Span}
 use Rattle.mc_token.specs.Statements.{statements}
 use Rattle.mc_token.specs.Tokens.{tokens_of}
-use Rattle.mycoll.specs.declared.answer.Answer.{Answer}
-use Rattle.mycoll.specs.declared.literal.Literal.{Literal}
-use Rattle.mycoll.specs.declared.operand_value.OperandValue.{OperandValue}
-use Rattle.mycoll.specs.declared.query.Query.{Query}
-use Rattle.mycoll.specs.declared.query.Form.{Form}
-use Rattle.mycoll.specs.declared.query.Form.TheVariants.{Compare, Hex, HexConvert}
-use Rattle.mycoll.specs.declared.query.Operand.{Operand}
-use Rattle.mycoll.specs.Messages.{no_reading, not_built, unknown_set, unknown_collation, wrong_collation}
-use Rattle.mycoll.specs.Print.{line, escaped, cell, refusal_line}
+use Rattle.mycoll.specs.Forms.{form_value}
+use Rattle.mycoll.specs.Messages.{no_reading}
+use Rattle.mycoll.specs.Print.{said_text}
 use Rattle.mycoll.specs.Queries.{query_of}
-use Rattle.mycoll.specs.SetNames.{set_named, same_set}
-use Rattle.mycoll.specs.Setting.{Setting, connection_set}
-use Rattle.mycoll.specs.Values.{limited, literal_set, literal_text, conversion, hex_value}
-
--- What comes of a value, or the refusal that stands in its place.
-abbrev pub with_value : {A B : Type 0} → (A → Result B Refusal) → Result A Refusal → Result B Refusal
-with_value next (Ok value) = next value
-with_value next (Err refusal) = Err refusal
-
--- The texts are equal under the collation: the flat lists of their characters have no order
--- between them.
-abbrev pub are_equal : Meaning → List ℕ → List ℕ → Bool
-are_equal m left right =
-    is_eq (list_order m.pad m.space (flat_list m (chars m.charset left)) (flat_list m (chars m.charset right)))
-
--- Whether two values are equal as a cell: NULL where one of them is.
-abbrev pub equality_cell : Meaning → Option (List ℕ) → Option (List ℕ) → List ℕ
-equality_cell m (Some left) (Some right) = if are_equal m left right then codes "1" else codes "0"
-equality_cell m left right = codes "NULL"
-
--- The collation that COLLATE names for a text of a set, where it does.
-unfoldable pub named_collation : Setting → Charset → Option (List ℕ) → Result (Option CollId) Refusal
-named_collation s set None = Ok None
-named_collation s set (Some name) = elim (number_of s.collations name) [
-  | None ↦ Err (unknown_collation name)
-  | Some id ↦ if same_set (s.meaning id).charset set then Ok (Some (record { 0 = id })) else Err (wrong_collation name set)
-]
-
--- The value of an operand: first its literal is refused, then its collation.
-unfoldable pub operand_value : Setting → Operand → Result OperandValue Refusal
-operand_value s operand =
-    with_value (λ text. with_value (λ id. Ok (record { value = limited text; collation = id }))
-    (named_collation s (literal_set (connection_set s) operand.literal) operand.collation))
-    (literal_text (connection_set s) operand.literal)
-
--- The number of a comparison's collation: the one that an operand names, else the connection's.
-abbrev pub collation_of : Setting → OperandValue → OperandValue → ℕ
-collation_of s left right =
-    elim (option_or left.collation right.collation) [ Some id ↦ id.0 | None ↦ s.connection ]
-
--- Two operands of one set are equal or not, as a cell.
-unfoldable pub comparison_cell : Setting → Operand → Operand → Result (List ℕ) Refusal
-comparison_cell s left right =
-    with_value (λ l. with_value (λ r. Ok (equality_cell (s.meaning (collation_of s l r)) l.value r.value)) (operand_value s right)) (operand_value s left)
-
--- The set of an operand.
-abbrev pub operand_set : Setting → Operand → Charset
-operand_set s operand = literal_set (connection_set s) operand.literal
-
--- The operands have one set.
-abbrev pub have_one_set : Setting → Operand → Operand → Bool
-have_one_set s left right = same_set (operand_set s left) (operand_set s right)
-
--- The digits of a value as a cell.
-abbrev pub hex_cell : Setting → Option (List ℕ) → List ℕ
-hex_cell s value = cell (connection_set s) (option_and_then (hex_value (connection_set s)) value)
-
--- The value of a literal's text in a set of this name, in hexadecimal digits.
-abbrev pub converted_cell : Setting → Literal → List ℕ → List ℕ → Result (List ℕ) Refusal
-converted_cell s literal name text = elim (set_named name) [
-  | None ↦ Err (unknown_set name)
-  | Some set ↦ Ok (hex_cell s (option_and_then (conversion (literal_set (connection_set s) literal) set) (limited text)))
-]
-
--- The cell that a form is answered with, or its refusal.
-unfoldable pub form_cell : Setting → Form → Result (List ℕ) Refusal
-form_cell s (Compare left right) = if have_one_set s left right then comparison_cell s left right else Err not_built
-form_cell s (Hex literal) = with_value (λ text. Ok (hex_cell s (limited text))) (literal_text (connection_set s) literal)
-form_cell s (HexConvert literal name) = with_value (converted_cell s literal name) (literal_text (connection_set s) literal)
-
--- A refused statement's answer.
-abbrev pub refusal_answer : Refusal → Answer
-refusal_answer refusal = record { text = refusal_line refusal; refused = true }
-
--- A header, and one row of one cell.
-abbrev pub row_answer : List ℕ → List ℕ → Answer
-row_answer header text = record { text = line (escaped header) ++ line text; refused = false }
-
--- The answer to a query: the script's own bytes as its header, and its cell, or its refusal.
-abbrev pub query_answer : Setting → List ℕ → Query → Answer
-query_answer s script query = elim (form_cell s query.form) [
-  | Ok text ↦ row_answer (slice_range script query.header.start query.header.end) text
-  | Err refusal ↦ refusal_answer refusal
-]
+use Rattle.mycoll.specs.World.{World, State}
+use Rattle.mycoll.specs.declared.query.Query.{Query}
+use Rattle.mycoll.specs.declared.said.Said.{Said}
+use Rattle.mycoll.specs.declared.said.Said.TheVariants.{Table, Refused}
+use Rattle.mycoll.specs.declared.said.Value.{Value}
 
 -- The query that a statement asks, if it has tokens and they read as one.
 unfoldable pub reading_of : List ℕ → Span → Option Query
 reading_of script statement =
     elim (tokens_of script statement) [ Ok tokens ↦ query_of tokens | Err fault ↦ None ]
 
--- The answer to a statement of a script.
-unfoldable pub statement_answer : Setting → List ℕ → Span → Answer
-statement_answer s script statement = elim (reading_of script statement) [
-  | Some query ↦ query_answer s script query
-  | None ↦ refusal_answer (no_reading statement.start)
+-- The statement reads as this query.
+abbrev pub Reads : List ℕ → Span → Query → Type 0
+Reads script statement query = reading_of script statement ≡ Some query
+
+-- The statement has no reading, and this is its refusal.
+abbrev pub IsSyntaxRefusal : List ℕ → Span → Refusal → Type 0
+IsSyntaxRefusal script statement refusal =
+    (reading_of script statement ≡ None) × (refusal ≡ no_reading statement.start)
+
+-- One row of one value.
+abbrev pub one_cell : List ℕ → Value → Said
+one_cell header value = Table (record { header = header ∷ []; rows = (value ∷ []) ∷ [] })
+
+-- What a query is answered with: its refusal, else its value under the script's own bytes.
+unfoldable pub query_said : World → State → List ℕ → Query → Said
+query_said w s script query = elim (form_value w s query.form) [
+  | Ok value ↦ one_cell (slice_range script query.header.start query.header.end) value
+  | Err refusal ↦ Refused refusal
 ]
 
--- The answers to the statements of a script from a place on.
-abbrev pub answers_from : Setting → List ℕ → ℕ → List Answer
-answers_from s script from = map (statement_answer s script) (statements script from)
+-- A query is answered so, and leaves this state: as it was, since it changes nothing.
+abbrev pub IsSaid : World → State → List ℕ → Query → Said → State → Type 0
+IsSaid w before script query said after =
+    (said ≡ query_said w before script query) × (after ≡ before)
 
--- The answers to a script: those to its statements, in order.
-abbrev pub answers : Setting → List ℕ → List Answer
-answers s script = answers_from s script 0
+-- A statement is refused for its syntax, and leaves the state as it was.
+abbrev pub IsRefusedRead : State → List ℕ → Span → Said → State → Type 0
+IsRefusedRead before script statement said after =
+    (refusal : Refusal) × IsSyntaxRefusal script statement refusal × (said ≡ Refused refusal)
+    × (after ≡ before)
 
--- Some answer is a refusal.
-abbrev pub some_refused : List Answer → Bool
-some_refused all = list_any (λ answer. answer.refused) all
+-- A statement reads as a query, which is answered so.
+abbrev pub IsReadAndSaid : World → State → List ℕ → Span → Said → State → Type 0
+IsReadAndSaid w before script statement said after =
+    (query : Query) × Reads script statement query × IsSaid w before script query said after
 
--- The bytes of the answers, one behind the other.
-abbrev pub answers_text : List Answer → List ℕ
-answers_text all = flat_map (λ answer. answer.text) all
+-- A statement is answered so in a state, and leaves this one: its syntax is refused, else what it
+-- asks is answered.
+abbrev pub IsAnswer : World → State → List ℕ → Span → Said → State → Type 0
+IsAnswer w before script statement said after =
+    IsRefusedRead before script statement said after
+    ⊎ IsReadAndSaid w before script statement said after
+
+-- Statements of a script are answered so, one behind the other, and leave this state. What a script
+-- costs will be summed along this.
+abbrev pub Answered : World → State → List ℕ → List Span → List Said → State → Type 0
+Answered w before script [] [] after = after ≡ before
+Answered w before script (statement ∷ statements) (said ∷ more) after =
+    (between : State) × IsAnswer w before script statement said between
+    × Answered w between script statements more after
+Answered w before script statements said after = ⊥
+
+-- Some first statements of a script are answered so.
+pub record AreFirst (w : World) (s : State) (script : List ℕ) (said : List Said) : Type 0 where
+  pub count : ℕ
+  pub behind : State
+  pub answered : Answered w s script (take count (statements script 0)) said behind
+
+-- All statements of a script are answered so.
+pub record AreAll (w : World) (s : State) (script : List ℕ) (said : List Said) : Type 0 where
+  pub behind : State
+  pub answered : Answered w s script (statements script 0) said behind
+
+-- A statement has at most one answer, and leaves at most one state.
+abbrev pub OneAnswer : Type 0
+OneAnswer = (w : World) (before : State) (script : List ℕ) (statement : Span)
+    (said other : Said) (after behind : State)
+    → IsAnswer w before script statement said after
+    → IsAnswer w before script statement other behind
+    → (said ≡ other) × (after ≡ behind)
+
+-- Whether an answer is a refusal.
+abbrev pub is_refusal : Said → Bool
+is_refusal (Refused refusal) = true
+is_refusal _ = false
+
+-- Whether some answer is a refusal.
+abbrev pub some_refused : List Said → Bool
+some_refused all = list_any is_refusal all
+
+-- The bytes of answers, one behind the other.
+abbrev pub said_texts : List Said → List ℕ
+said_texts all = flat_map said_text all

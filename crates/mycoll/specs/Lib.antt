@@ -1,13 +1,13 @@
 pub mod Messages
-pub mod SetNames
 pub mod Literals
 pub mod Queries
 pub mod Unanswered
 pub mod Values
-pub mod Print
-pub mod Setting
-pub mod Answers
+pub mod World
+pub mod Forms
 pub mod OperandSets
+pub mod Print
+pub mod Answers
 pub mod Words
 pub mod Outcome
 pub mod Opened

@@ -1,11 +1,12 @@
 -- The strings of the language, by their tokens: MySQL 8.0 manual, 9.1.1, 9.1.4, 10.3.7 and 10.3.8.
-use Rattle.std.specs.Prelude.{ℕ, ◌+◌, ◌==◌, Bool, true, false, List, [], ◌∷◌, ◌++◌, Option, Some, None, if◌then◌else◌, option_and_then}
+use Rattle.std.specs.Prelude.{ℕ, ◌+◌, ◌==◌, Bool, true, false, List, [], ◌∷◌, ◌++◌, Option, Some}
+use Rattle.std.specs.Prelude.{None, if◌then◌else◌, option_and_then}
 use Rattle.std.specs.List.{flat_map, take_while, prefix_len}
 use Rattle.std.specs.Str.{IsUtf8}
 use Rattle.mc_charset.specs.declared.charset.Charset.{Charset}
+use Rattle.mc_charset.specs.Names.{set_named}
 use Rattle.mc_token.specs.declared.lexeme.Token.{Token}
 use Rattle.mc_token.specs.declared.lexeme.Lexeme.TheVariants.{Word, Str, National, Hex}
-use Rattle.mycoll.specs.SetNames.{set_named}
 use Rattle.mycoll.specs.declared.literal.Literal.{Literal}
 use Rattle.mycoll.specs.declared.literal.Literal.TheVariants as literal
 
@@ -25,10 +26,14 @@ joined_text tokens = flat_map string_text tokens
 abbrev pub beside : List ℕ → List Token → List ℕ
 beside text tokens = text ++ joined_text (take_while is_string tokens)
 
+-- The byte `_`.
+abbrev pub underscore : ℕ
+underscore = 0x5F
+
 -- The set that an introducer names: the word is `_S`, and S names a set.
 abbrev pub introducer : List ℕ → Option Charset
 introducer [] = None
-introducer (c ∷ name) = if c == 0x5F then set_named name else None
+introducer (c ∷ name) = if c == underscore then set_named name else None
 
 -- The literal of an introducer that these tokens follow, and how many tokens it has.
 abbrev pub introduced : Charset → List Token → Option (Literal × ℕ)

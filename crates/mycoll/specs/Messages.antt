@@ -15,19 +15,29 @@ not_built = record { number = 9099; text = codes "not built yet" }
 
 -- No set has this name.
 abbrev pub unknown_set : List ℕ → Refusal
-unknown_set name = record { number = 1115; text = codes "Unknown character set: '" ++ name ++ codes "'" }
+unknown_set name = record {
+  number = 1115;
+  text = codes "Unknown character set: '" ++ name ++ codes "'";
+}
 
 -- No collation has this name.
 abbrev pub unknown_collation : List ℕ → Refusal
-unknown_collation name = record { number = 1273; text = codes "Unknown collation: '" ++ name ++ codes "'" }
+unknown_collation name = record {
+  number = 1273;
+  text = codes "Unknown collation: '" ++ name ++ codes "'";
+}
 
 -- The collation of this name has another set than the text.
 abbrev pub wrong_collation : List ℕ → Charset → Refusal
 wrong_collation name set = record {
   number = 1253;
-  text = codes "COLLATION '" ++ name ++ codes "' is not valid for CHARACTER SET '" ++ name_of set ++ codes "'";
+  text = codes "COLLATION '" ++ name ++ codes "' is not valid for CHARACTER SET '" ++ name_of set
+      ++ codes "'";
 }
 
 -- The bytes behind an introducer are malformed in its set.
 abbrev pub invalid_string : Charset → Refusal
-invalid_string set = record { number = 1300; text = codes "Invalid " ++ name_of set ++ codes " character string" }
+invalid_string set = record {
+  number = 1300;
+  text = codes "Invalid " ++ name_of set ++ codes " character string";
+}

@@ -1,40 +1,40 @@
 -- The outcome of the files: what is to be answered, or the first refusal.
-use Rattle.std.specs.Prelude.{ℕ, Bool, true, false, List, [], ◌∷◌, ◌++◌, ◌&&◌, Option, Some, None, Result, Ok, Err, nat_lt, length, drop, if◌then◌else◌, codes, decimal, option_map, option_and_then, slice_get}
+use Rattle.std.specs.Prelude.{ℕ, Bool, true, false, List, [], ◌∷◌, ◌++◌, ◌&&◌, Option, Some, None}
+use Rattle.std.specs.Prelude.{Result, Ok, Err, nat_lt, length, drop, if◌then◌else◌, codes, decimal}
 use Rattle.std.specs.List.{list_all}
-use Rattle.std.specs.Option.{option_or}
+use Rattle.std.specs.Result.{result_map_both}
 use Rattle.std.specs.Str.Lossy.{utf8_valid_len}
-use Rattle.mc_base.specs.Lines.{lines_of}
+use Rattle.mc_base.specs.FileOutcome.{file_outcome, file_refusal}
+use Rattle.mc_base.specs.Results.{result_and_then}
 use Rattle.mc_base.specs.declared.refusal.FileRefusal.{FileRefusal}
 use Rattle.mc_book.specs.BookOutcome.{has_table, book_outcome}
-use Rattle.mc_book.specs.FileOutcome.{refused, file_outcome}
 use Rattle.mc_catalog.specs.BuiltIn.{plain}
-use Rattle.mc_catalog.specs.CatalogFaults.{fault_of, bare_place}
-use Rattle.mc_catalog.specs.Progress.{Progress, said_by, tables_of, catalog_of}
+use Rattle.mc_catalog.specs.Limits.{built_in_count}
+use Rattle.mc_catalog.specs.Outcome.{catalog_outcome}
 use Rattle.mc_catalog.specs.declared.catalog.Catalog.{Catalog}
 use Rattle.mc_catalog.specs.declared.catalog.TableDecl.{TableDecl}
 use Rattle.mc_catalog.specs.declared.fault.CatalogFault.{CatalogFault}
 use Rattle.mc_catalog.specs.declared.fault.CatalogFaultKind.{CatalogFaultKind}
-use Rattle.mc_catalog.specs.declared.fault.CatalogFaultKind.TheVariants.{BadLine, UnknownCharset, UnknownKind, WrongCharset, UnknownCollation, UnknownColumn, BadLength, Repeated, TooMany, NoColumn, NoMemory}
+use Rattle.mc_catalog.specs.declared.fault.CatalogFaultKind.TheVariants.{BadLine, UnknownCharset}
+use Rattle.mc_catalog.specs.declared.fault.CatalogFaultKind.TheVariants.{UnknownKind, WrongCharset}
+use Rattle.mc_catalog.specs.declared.fault.CatalogFaultKind.TheVariants.{UnknownCollation}
+use Rattle.mc_catalog.specs.declared.fault.CatalogFaultKind.TheVariants.{UnknownColumn, BadLength}
+use Rattle.mc_catalog.specs.declared.fault.CatalogFaultKind.TheVariants.{Repeated, TooMany}
+use Rattle.mc_catalog.specs.declared.fault.CatalogFaultKind.TheVariants.{NoColumn, NoMemory}
 use Rattle.mc_order.specs.Meaning.{Meaning}
-use Rattle.mc_table8.specs.Outcome.{first_fault}
 use Rattle.mycoll.specs.Print.{line}
-use Rattle.mycoll.specs.Words.{Named}
-
--- What comes of a file, or the refusal that stands in its place.
-abbrev pub with_file : {A B : Type 0} → (A → Result B FileRefusal) → Result A FileRefusal → Result B FileRefusal
-with_file next (Ok value) = next value
-with_file next (Err refusal) = Err refusal
+use Rattle.mycoll.specs.Words.{FileNames}
 
 -- A script has to be UTF-8; the refusal tells how long its longest valid prefix is.
 abbrev pub utf8_outcome : List ℕ → List ℕ → Result (List ℕ) FileRefusal
 utf8_outcome name text =
     if nat_lt (utf8_valid_len text) (length text)
-    then Err (refused name (codes "NotUtf8") (utf8_valid_len text))
+    then Err (file_refusal name (codes "NotUtf8") (utf8_valid_len text))
     else Ok text
 
 -- The script of this name: there, at most 16,777,216 bytes long, and UTF-8.
-unfoldable pub script_outcome : (List ℕ → Option (List ℕ)) → List ℕ → Result (List ℕ) FileRefusal
-script_outcome files name = with_file (utf8_outcome name) (file_outcome files name)
+unfoldable pub named_script : (List ℕ → Option (List ℕ)) → List ℕ → Result (List ℕ) FileRefusal
+named_script files name = result_and_then (utf8_outcome name) (file_outcome files name)
 
 -- The name of a catalog's fault.
 abbrev pub fault_name : CatalogFaultKind → List ℕ
@@ -50,15 +50,6 @@ fault_name TooMany = codes "TooMany"
 fault_name NoColumn = codes "NoColumn"
 fault_name NoMemory = codes "NoMemory"
 
--- The fault of lines that say this: the first table without a column, at its line.
-abbrev pub bare_fault : Progress → Option CatalogFault
-bare_fault said =
-    option_map (λ number. record { kind = NoColumn; line = number }) (option_and_then (slice_get said.table_lines) (bare_place (tables_of said)))
-
--- The fault of a catalog's lines: the first one of a line, else that of their end.
-abbrev pub catalog_fault : List (ℕ × List ℕ) → Option CatalogFault
-catalog_fault lines = option_or (first_fault fault_of lines) (bare_fault (said_by lines))
-
 -- No table of rows is declared.
 abbrev pub has_no_table : List TableDecl → Bool
 has_no_table [] = true
@@ -68,25 +59,30 @@ has_no_table (table ∷ tables) = false
 -- rows.
 abbrev pub is_built : Catalog → Bool
 is_built catalog =
-    list_all (λ declared. has_table declared.kind) (drop 9 catalog.collations) && has_no_table catalog.tables
+    list_all (λ declared. has_table declared.kind) (drop built_in_count catalog.collations)
+    && has_no_table catalog.tables
 
 -- An accepted catalog, or the refusal of what isn't built yet.
 abbrev pub built_outcome : List ℕ → Catalog → Result Catalog FileRefusal
-built_outcome name catalog = if is_built catalog then Ok catalog else Err (refused name (codes "NotBuilt") 0)
+built_outcome name catalog =
+    if is_built catalog then Ok catalog else Err (file_refusal name (codes "NotBuilt") 0)
 
--- What the lines of a catalog give, by their fault.
-abbrev pub lines_outcome : List ℕ → List (ℕ × List ℕ) → Option CatalogFault → Result Catalog FileRefusal
-lines_outcome name lines None = built_outcome name (catalog_of (said_by lines))
-lines_outcome name lines (Some fault) = Err (refused name (fault_name fault.kind) fault.line)
+-- The refusal of a catalog's file, by its fault.
+abbrev pub catalog_refusal : List ℕ → CatalogFault → FileRefusal
+catalog_refusal name fault = file_refusal name (fault_name fault.kind) fault.line
 
--- The catalog that a text says, or its refusal.
-unfoldable pub text_outcome : List ℕ → List ℕ → Result Catalog FileRefusal
-text_outcome name text = lines_outcome name (lines_of text) (catalog_fault (lines_of text))
+-- The catalog that a text says, or the refusal of its file.
+unfoldable pub built_catalog : List ℕ → List ℕ → Result Catalog FileRefusal
+built_catalog name text =
+    result_and_then (built_outcome name)
+    (result_map_both (λ catalog. catalog) (catalog_refusal name) (catalog_outcome text))
 
 -- The catalog of this name, or the one without declarations where none is named.
-unfoldable pub catalog_outcome : (List ℕ → Option (List ℕ)) → Option (List ℕ) → Result Catalog FileRefusal
-catalog_outcome files None = Ok plain
-catalog_outcome files (Some name) = with_file (text_outcome name) (file_outcome files name)
+unfoldable pub named_catalog : (List ℕ → Option (List ℕ)) → Option (List ℕ)
+    → Result Catalog FileRefusal
+named_catalog files None = Ok plain
+named_catalog files (Some name) =
+    result_and_then (built_catalog name) (file_outcome files name)
 
 -- What is to be answered: a script, by the collations of a catalog and what each of them means.
 pub record Accepted : Type 0 where
@@ -95,17 +91,23 @@ pub record Accepted : Type 0 where
   pub meanings : List Meaning
 
 -- A script and a catalog, with the book of its collations.
-unfoldable pub with_book : (List ℕ → Option (List ℕ)) → Catalog → List ℕ → Result Accepted FileRefusal
+unfoldable pub with_book : (List ℕ → Option (List ℕ)) → Catalog → List ℕ
+    → Result Accepted FileRefusal
 with_book files catalog script =
-    with_file (λ meanings. Ok (record { catalog = catalog; script = script; meanings = meanings })) (book_outcome files catalog.collations)
+    result_and_then
+    (λ meanings. Ok (record { catalog = catalog; script = script; meanings = meanings }))
+    (book_outcome files catalog.collations)
 
 -- A catalog, with a script and the book.
-unfoldable pub with_script : (List ℕ → Option (List ℕ)) → List ℕ → Catalog → Result Accepted FileRefusal
-with_script files script catalog = with_file (with_book files catalog) (script_outcome files script)
+unfoldable pub with_script : (List ℕ → Option (List ℕ)) → List ℕ → Catalog
+    → Result Accepted FileRefusal
+with_script files script catalog =
+    result_and_then (with_book files catalog) (named_script files script)
 
 -- The files are taken in this order: the catalog, the script, the tables of the collations.
-unfoldable pub files_outcome : (List ℕ → Option (List ℕ)) → Named → Result Accepted FileRefusal
-files_outcome files named = with_file (with_script files named.script) (catalog_outcome files named.catalog)
+unfoldable pub files_outcome : (List ℕ → Option (List ℕ)) → FileNames → Result Accepted FileRefusal
+files_outcome files named =
+    result_and_then (with_script files named.script) (named_catalog files named.catalog)
 
 -- The line of a refused file.
 abbrev pub refused_line : FileRefusal → List ℕ

@@ -1,78 +1,91 @@
--- What a run of some words is to write, what it has written when it ends, and why it may end early.
-use Rattle.std.specs.Prelude.{◌≡◌, ◌⊎◌, ℕ, Bool, List, [], ◌∷◌, Option, Some, None, Result, Ok, Err, IsSome, option_map, map, take, if◌then◌else◌, ⊤}
-use Rattle.std.specs.List.{flat_map}
+-- What a run of some words is to do, what it has written when it ends, and why it may end early.
+use Rattle.std.specs.Prelude.{◌≡◌, ◌⊎◌, ℕ, Bool, true, false, List, Option, Some, None, Result, Ok}
+use Rattle.std.specs.Prelude.{Err, IsSome, option_map, take, if◌then◌else◌, ⊤}
 use Rattle.mc_base.specs.Faults.{Rose}
 use Rattle.mc_base.specs.Sink.{appended}
 use Rattle.mc_book.specs.Meanings.{meaning_at}
-use Rattle.mycoll.specs.Setting.{Setting, setting}
-use Rattle.mycoll.specs.declared.answer.Answer.{Answer}
 use Rattle.mycoll.specs.declared.status.Status.{Status}
-use Rattle.mycoll.specs.declared.status.Status.TheVariants.{Done, SomeRefused, Usage, FilesRefused, ReadFault, WriteFault, NoMemory}
+use Rattle.mycoll.specs.declared.status.Status.TheVariants.{Done, SomeRefused, Usage, FilesRefused}
+use Rattle.mycoll.specs.declared.status.Status.TheVariants.{ReadFault, WriteFault, NoMemory}
 use Rattle.mycoll.specs.declared.output.Stopped.{Stopped}
 use Rattle.mycoll.specs.declared.output.Stopped.TheVariants.{Fault, NoMemory as OutOfMemory}
-use Rattle.mycoll.specs.Words.{Named, named_files, usage_line}
+use Rattle.mycoll.specs.Answering.{AllWritten, FirstWritten, PartWritten}
 use Rattle.mycoll.specs.Outcome.{Accepted, files_outcome, refused_line}
-use Rattle.mycoll.specs.Answers.{answers, some_refused}
+use Rattle.mycoll.specs.Words.{FileNames, named_files, usage_line}
+use Rattle.mycoll.specs.World.{World, State, world_of}
 
--- What is to be written, in the parts that are written whole or not at all where memory runs
--- out, and how a run ends that has written them all.
-pub record Plan : Type 0 where
-  pub parts : List (List ℕ)
-  pub status : Status
+-- What a run is to do: to write one line and end so, or to answer a script.
+pub data Task : Type 0 where
+  one_line : List ℕ → Status → Task
+  script_task : World → State → List ℕ → Task
 
--- All that is to be written.
-abbrev pub whole : List (List ℕ) → List ℕ
-whole parts = flat_map (λ part. part) parts
+-- The world of what was accepted.
+abbrev pub accepted_world : Accepted → World
+accepted_world accepted = world_of accepted.catalog (meaning_at accepted.meanings)
 
-abbrev pub one_line : List ℕ → Status → Plan
-one_line line status = record { parts = line ∷ []; status = status }
-
--- A script's answers, a part each.
-unfoldable pub script_plan : Setting → List ℕ → Plan
-script_plan s script = record {
-  parts = map (λ (answer : Answer). answer.text) (answers s script);
-  status = if some_refused (answers s script) then SomeRefused else Done;
-}
-
--- The setting of what was accepted.
-abbrev pub setting_of : Accepted → Setting
-setting_of accepted = setting accepted.catalog (meaning_at accepted.meanings)
+-- The state in which its first statement is answered.
+abbrev pub accepted_state : Accepted → State
+accepted_state accepted = record { connection = accepted.catalog.connection }
 
 -- A refused file gives one line, and an accepted script its answers.
-unfoldable pub files_plan : (List ℕ → Option (List ℕ)) → Named → Plan
-files_plan files named = elim (files_outcome files named) [
-  | Ok accepted ↦ script_plan (setting_of accepted) accepted.script
+unfoldable pub files_task : (List ℕ → Option (List ℕ)) → FileNames → Task
+files_task files named = elim (files_outcome files named) [
+  | Ok accepted ↦ script_task (accepted_world accepted) (accepted_state accepted) accepted.script
   | Err refusal ↦ one_line (refused_line refusal) FilesRefused
 ]
 
--- The plan for some words, over what is told of the files. Words of no form need no files.
-unfoldable pub plan : Option (List ℕ → Option (List ℕ)) → List (List ℕ) → Option Plan
-plan told words = elim (named_files words) [
+-- What is to be done for some words, over what is told of the files; words of no form need none.
+unfoldable pub task : Option (List ℕ → Option (List ℕ)) → List (List ℕ) → Option Task
+task told words = elim (named_files words) [
   | None ↦ Some (one_line usage_line Usage)
-  | Some named ↦ option_map (λ files. files_plan files named) told
+  | Some named ↦ option_map (λ files. files_task files named) told
 ]
 
--- All of the plan was written, and its status is this one.
-pub record IsCarriedOut (p : Plan) (status : Status) (before after : Option (List ℕ)) : Type 0 where
-  pub ends : p.status ≡ status
-  pub written : after ≡ appended before (whole p.parts)
+-- The line was written, and its status is this one.
+pub record IsLineWritten (text : List ℕ) (wanted status : Status)
+    (before after : Option (List ℕ)) : Type 0 where
+  pub ends : wanted ≡ status
+  pub written : after ≡ appended before text
 
--- What was written by the end, which has this status: all of the plan; nothing after a read
--- fault; some first bytes of the plan after a write fault; some first parts of it where memory
--- ran out.
-abbrev pub HasWritten : Plan → Status → Option (List ℕ) → Option (List ℕ) → Type 0
-HasWritten p Done before after = IsCarriedOut p Done before after
-HasWritten p SomeRefused before after = IsCarriedOut p SomeRefused before after
-HasWritten p Usage before after = IsCarriedOut p Usage before after
-HasWritten p FilesRefused before after = IsCarriedOut p FilesRefused before after
-HasWritten p ReadFault before after = after ≡ before
-HasWritten p WriteFault before after = (n : ℕ) × (after ≡ appended before (take n (whole p.parts)))
-HasWritten p NoMemory before after = (n : ℕ) × (after ≡ appended before (whole (take n p.parts)))
+-- What was written of one line by the end, which has this status: all of it; some first bytes after
+-- a write fault; nothing after a read fault, or where memory ran out.
+abbrev pub LineWritten : List ℕ → Status → Status → Option (List ℕ) → Option (List ℕ) → Type 0
+LineWritten text ends ReadFault before after = after ≡ before
+LineWritten text ends WriteFault before after = (n : ℕ) × (after ≡ appended before (take n text))
+LineWritten text ends NoMemory before after = after ≡ before
+LineWritten text ends Done before after = IsLineWritten text ends Done before after
+LineWritten text ends SomeRefused before after = IsLineWritten text ends SomeRefused before after
+LineWritten text ends Usage before after = IsLineWritten text ends Usage before after
+LineWritten text ends FilesRefused before after = IsLineWritten text ends FilesRefused before after
 
--- Where no device failed in the run, it ends as the plan does, or memory ran out.
-abbrev pub IsComplete : Plan → Status → (reads reads' writes writes' : ℕ) → Type 0
-IsComplete p status reads reads' writes writes' =
-    (Rose reads reads' → ⊥) → (Rose writes writes' → ⊥) → (status ≡ p.status) ⊎ (status ≡ NoMemory)
+-- What was written of a script's answers by the end, which has this status: all of them, none or
+-- some of them refusals; nothing after a read fault; some first bytes of the answers to some first
+-- statements after a write fault; the whole answers to some first statements where memory ran out.
+abbrev pub ScriptWritten : World → State → List ℕ → Status → Option (List ℕ) → Option (List ℕ)
+    → Type 0
+ScriptWritten w s script Done before after = AllWritten w s script false before after
+ScriptWritten w s script SomeRefused before after = AllWritten w s script true before after
+ScriptWritten w s script Usage before after = ⊥
+ScriptWritten w s script FilesRefused before after = ⊥
+ScriptWritten w s script ReadFault before after = after ≡ before
+ScriptWritten w s script WriteFault before after = PartWritten w s script before after
+ScriptWritten w s script NoMemory before after = FirstWritten w s script before after
+
+-- What was written of a task by the end, which has this status.
+abbrev pub HasWritten : Task → Status → Option (List ℕ) → Option (List ℕ) → Type 0
+HasWritten (one_line text ends) status before after = LineWritten text ends status before after
+HasWritten (script_task w s script) status before after =
+    ScriptWritten w s script status before after
+
+-- The status is one of a task that was done.
+abbrev pub IsDone : Task → Status → Type 0
+IsDone (one_line text ends) status = status ≡ ends
+IsDone (script_task w s script) status = (status ≡ Done) ⊎ (status ≡ SomeRefused)
+
+-- Where no device failed in the run, its task was done, or memory ran out.
+abbrev pub IsComplete : Task → Status → (reads reads' writes writes' : ℕ) → Type 0
+IsComplete t status reads reads' writes writes' =
+    (Rose reads reads' → ⊥) → (Rose writes writes' → ⊥) → IsDone t status ⊎ (status ≡ NoMemory)
 
 -- Reading failed only where the count of the files' faults rose, and then nothing was written.
 abbrev pub ReadCause : Status → ℕ → ℕ → Option (List ℕ) → Option (List ℕ) → Type 0
@@ -95,7 +108,7 @@ WriteCause ReadFault faults faults' = ⊤
 WriteCause NoMemory faults faults' = ⊤
 
 -- The usage line is for words of no form alone, and files are opened for words of a form alone.
-abbrev pub FitsWords : Option Named → Status → Type 0
+abbrev pub FitsWords : Option FileNames → Status → Type 0
 FitsWords named Usage = named ≡ None
 FitsWords named Done = IsSome named
 FitsWords named SomeRefused = IsSome named

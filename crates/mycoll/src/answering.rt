@@ -3,6 +3,7 @@ ghost use Rattle.std.specs.Prelude.{
   ◌≤◌,
   ◌<◌,
   ◌^◌,
+  IfErr,
   IfOk,
   IfSome,
   Ok,
@@ -11,17 +12,23 @@ ghost use Rattle.std.specs.Prelude.{
 };
 ghost use Rattle.mc_token.specs.Tokens.{tokens_of};
 ghost use Rattle.mycoll.specs.Answering.{AnswersWritten, StopCause};
-ghost use Rattle.mycoll.specs.Answers.{answers, query_answer, reading_of, statement_answer};
+ghost use Rattle.mycoll.specs.Answers.{IsAnswer, one_cell, query_said, reading_of};
+ghost use Rattle.mycoll.specs.Messages.{no_reading};
+ghost use Rattle.mycoll.specs.Print.{HasTexts, IsTextOfSet};
 ghost use Rattle.mycoll.specs.Queries.{query_of, IsOfScript};
+ghost use Rattle.mycoll.specs.World.{AreSound, state_of, world_of};
+ghost use Rattle.mycoll.specs.declared.said.Said.TheVariants.{Refused};
 
-use crate::answer::{Answer, refusal_answer, row_answer};
-use crate::cells::form_cell;
-use crate::engine::Engine;
+use crate::forms::form_value;
 use crate::messages::no_reading;
-use crate::output::{Stopped, write_bytes};
+use crate::output::{Stopped, write_said};
 use crate::query::{Query, read_query};
+use crate::said::{Answer, Said, Value};
+use crate::session::Session;
 use crate::unanswered::Unanswered;
-use mc_base::{List, NoMemory, Sink, Span};
+use mc_base::{List, NoMemory, Sink, Span, Text};
+use mc_catalog::Catalog;
+use mc_order::Book;
 use mc_token::{LexFault, Token, next_statement, token_laws, tokens};
 use std::alloc::Global;
 
@@ -59,64 +66,109 @@ fn read_statement(alloc: Global, script: &[u8], statement: Span) -> Result<Optio
     }
 }
 
-/// The answer to a query of the script.
-fn answer_query<E: Engine>(
+/// A table of one value under its header.
+fn one_cell(alloc: Global, header: &[u8], value: Value) -> Result<Said, NoMemory>
+    requires { IsTextOfSet value }
+    ensures is { IfOk result (λ said. said ≡ one_cell header.now value) }
+    ensures texts { IfOk result HasTexts }
+{
+    let mut names = List::new(alloc);
+    names.push(Text::from_slice(alloc, header)?)?;
+    let mut row = List::new(alloc);
+    row.push(value)?;
+    let mut rows = List::new(alloc);
+    rows.push(row)?;
+    Ok(Said::Table(Answer {
+        header: names,
+        rows,
+    }))
+}
+
+/// What a query of the script is answered with.
+#[tactic(auto, unfolding(crate::specs::Answers::query_said))]
+fn answer_query<B: Book>(
     alloc: Global,
-    engine: &E,
+    catalog: &Catalog,
+    book: &B,
+    session: &Session,
     script: &[u8],
     query: &Query,
-) -> Result<Answer, NoMemory>
-    requires { IsOfScript script.now query.now }
-    ensures { IfOk result (λ answer. answer ≡ query_answer (E.setting engine.now) script.now query.now) }
+) -> Result<Said, NoMemory>
+    requires of_script { IsOfScript script.now query.now }
+    requires sound { AreSound (world_of catalog.now (B.meaning book.now)) (B.count book.now)
+        (state_of session.now) }
+    ensures is { IfOk result (λ said. said ≡ query_said (world_of catalog.now (B.meaning book.now))
+        (state_of session.now) script.now query.now) }
+    ensures texts { IfOk result HasTexts }
 {
     let header = &script[query.header.start as usize..query.header.end as usize];
-    match form_cell(alloc, engine, &query.form) {
-        Ok(cell) => row_answer(alloc, header, &cell),
-        Err(Unanswered::Refused(refusal)) => refusal_answer(alloc, &refusal),
+    match form_value(alloc, catalog, book, session, &query.form) {
+        Ok(value) => one_cell(alloc, header, value),
+        Err(Unanswered::Refused(refusal)) => Ok(Said::Refused(refusal)),
         Err(Unanswered::NoMemory) => Err(NoMemory),
     }
 }
 
-/// The answer to a statement of a script.
-#[tactic(auto, unfolding(crate::specs::Answers::statement_answer))]
-fn answer_statement<E: Engine>(
+/// The refusal of a statement without a reading.
+fn refuse_reading(alloc: Global, statement: Span) -> Result<Said, NoMemory>
+    ensures is { IfOk result (λ said. said ≡ Refused (no_reading statement.start)) }
+    ensures texts { IfOk result HasTexts }
+{
+    Ok(Said::Refused(no_reading(alloc, statement.start)?))
+}
+
+/// What a statement of a script is answered with, in a session that it may change. Without memory
+/// the session stays as it was.
+fn answer_statement<B: Book>(
     alloc: Global,
-    engine: &E,
+    catalog: &Catalog,
+    book: &B,
+    session: &mut Session,
     script: &[u8],
     statement: Span,
-) -> Result<Answer, NoMemory>
+) -> Result<Said, NoMemory>
     requires in_order { statement.start ≤ statement.end }
     requires within { statement.end ≤ length script.now }
     requires utf8 { IsUtf8 script.now }
-    ensures { IfOk result (λ answer. answer ≡ statement_answer (E.setting engine.now) script.now statement) }
+    requires sound { AreSound (world_of catalog.now (B.meaning book.now)) (B.count book.now)
+        (state_of session.old) }
+    ensures is { IfOk result (λ said. IsAnswer (world_of catalog.now (B.meaning book.now))
+        (state_of session.old) script.now statement said (state_of session.new)) }
+    ensures texts { IfOk result HasTexts }
+    ensures sound { AreSound (world_of catalog.now (B.meaning book.now)) (B.count book.now)
+        (state_of session.new) }
+    ensures kept { IfErr result (λ _. session.new ≡ session.old) }
 {
     match read_statement(alloc, script, statement)? {
-        Some(query) => answer_query(alloc, engine, script, &query),
-        None => refusal_answer(alloc, &no_reading(alloc, statement.start)?),
+        Some(query) => answer_query(alloc, catalog, book, session, script, &query),
+        None => refuse_reading(alloc, statement),
     }
 }
 
-/// Answers the statements of a script in turn, each by one call of the sink, and tells whether
-/// some were refused.
-pub fn answer_script<E: Engine, S: Sink>(
+/// Answers the statements of a script in turn, each in the session that the ones before it left and
+/// by at most one call of the sink, and tells whether some were refused.
+pub fn answer_script<B: Book, S: Sink>(
     alloc: Global,
-    engine: &E,
+    catalog: &Catalog,
+    book: &B,
+    session: &mut Session,
     script: &[u8],
     out: &mut S,
 ) -> Result<bool, Stopped>
     requires short { length script.now < 2 ^ 32 }
     requires utf8 { IsUtf8 script.now }
+    requires sound { AreSound (world_of catalog.now (B.meaning book.now)) (B.count book.now)
+        (state_of session.old) }
     ensures later { S.faults out.old ≤ S.faults out.new }
-    ensures told { AnswersWritten (answers (E.setting engine.now) script.now) result
-        (S.written out.old) (S.written out.new) }
+    ensures told { AnswersWritten (world_of catalog.now (B.meaning book.now))
+        (state_of session.old) script.now result (S.written out.old) (S.written out.new) }
     ensures cause { StopCause result (S.faults out.old) (S.faults out.new) }
 {
     let mut refused = false;
     let mut from = 0;
     while let Some((statement, next)) = next_statement(script, from) {
-        let answer = answer_statement(alloc, engine, script, statement)?;
-        write_bytes(out, answer.text.as_slice())?;
-        refused |= answer.refused;
+        let said = answer_statement(alloc, catalog, book, session, script, statement)?;
+        refused |= write_said(alloc, said, out)?;
         from = next;
     }
     Ok(refused)

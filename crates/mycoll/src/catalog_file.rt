@@ -1,21 +1,19 @@
-ghost use Rattle.std.specs.Bool.{OnTrue};
 ghost use Rattle.std.specs.Option.{option_copied};
-ghost use Rattle.std.specs.Prelude.{◌≡◌, ◌≤◌, ◌<◌, ◌^◌, ℕ, All, IfErr, IfOk, IfSome, drop, length};
-ghost use Rattle.mc_book.specs.BookOutcome.{IsBuilt};
-ghost use Rattle.mc_book.specs.FileOutcome.{refused};
-ghost use Rattle.mc_book.specs.Told.{HasOutcome, BookCause, RefusedAs};
+ghost use Rattle.std.specs.Prelude.{◌≡◌, ◌≤◌, ◌<◌, ◌^◌, ℕ, IfErr, IfOk, IfSome, length};
+ghost use Rattle.mc_base.specs.FileOutcome.{FileCause, HasOutcome, IsRefusedAs};
 ghost use Rattle.mc_catalog.specs.BuiltIn.{plain};
 ghost use Rattle.mc_catalog.specs.Lawful.{IsLawful};
 ghost use Rattle.mycoll.specs.Outcome.{
   fault_name,
   is_built,
   built_outcome,
-  text_outcome,
-  catalog_outcome,
+  catalog_refusal,
+  built_catalog,
+  named_catalog,
 };
 
-use mc_base::{Files, NoMemory, Text};
-use mc_book::{BookFault, declares_built_kinds, read_file, refused};
+use mc_base::{FileFault, Files, NoMemory, Text, read_file, refuse_file};
+use mc_book::declares_built_kinds;
 use mc_catalog::{Catalog, CatalogFault, CatalogFaultKind, plain_catalog, read_catalog};
 use std::alloc::Global;
 
@@ -39,80 +37,77 @@ fn fault_name(kind: CatalogFaultKind) -> &'static [u8]
 }
 
 /// A catalog's fault as the refusal of its file, or want of memory.
-fn refused_catalog(alloc: Global, name: &Text, fault: &CatalogFault) -> BookFault
-    ensures refused { RefusedAs result (refused name.now (fault_name fault.now.kind) fault.now.line) }
-    ensures memory { fault.now.kind ≡ CatalogFaultKind.NoMemory → result ≡ BookFault.NoMemory }
+fn catalog_refusal(alloc: Global, name: &Text, fault: &CatalogFault) -> FileFault
+    ensures refused { IsRefusedAs result (catalog_refusal name.now fault.now) }
+    ensures memory { fault.now.kind ≡ CatalogFaultKind.NoMemory → result ≡ FileFault.NoMemory }
 {
     match fault.kind {
-        CatalogFaultKind::NoMemory => BookFault::NoMemory,
-        kind => refused(alloc, name, fault_name(kind), u64::from(fault.line)),
+        CatalogFaultKind::NoMemory => FileFault::NoMemory,
+        kind => refuse_file(alloc, name, fault_name(kind), u64::from(fault.line)),
     }
 }
 
 /// Whether everything that the catalog declares is built.
 fn is_built(catalog: &Catalog) -> bool
     requires { IsLawful catalog.now }
-    ensures is { result ≡ is_built catalog.now }
-    ensures built { OnTrue result (All IsBuilt (drop 9 catalog.now.collations)) }
+    ensures { result ≡ is_built catalog.now }
 {
     declares_built_kinds(catalog) && catalog.tables.is_empty()
 }
 
 /// The catalog, if everything that it declares is built.
-fn check_built(alloc: Global, name: &Text, catalog: Catalog) -> Result<Catalog, BookFault>
+fn check_built(alloc: Global, name: &Text, catalog: Catalog) -> Result<Catalog, FileFault>
     requires { IsLawful catalog }
     ensures told { HasOutcome (λ built. built) result (built_outcome name.now catalog) }
-    ensures cause { (before after : ℕ) → BookCause result before after }
+    ensures cause { (before after : ℕ) → FileCause result before after }
     ensures lawful { IfOk result IsLawful }
-    ensures built { IfOk result (λ built. All IsBuilt (drop 9 built.collations)) }
 {
     if is_built(&catalog) {
         Ok(catalog)
     } else {
-        Err(refused(alloc, name, b"NotBuilt", 0))
+        Err(refuse_file(alloc, name, b"NotBuilt", 0))
     }
 }
 
 /// The catalog that a file's text says, if everything that it declares is built.
-fn check_catalog(alloc: Global, name: &Text, text: &[u8]) -> Result<Catalog, BookFault>
+fn check_catalog(alloc: Global, name: &Text, text: &[u8]) -> Result<Catalog, FileFault>
     requires { length text.now < 2 ^ 32 }
-    ensures told { HasOutcome (λ catalog. catalog) result (text_outcome name.now text.now) }
-    ensures cause { (before after : ℕ) → BookCause result before after }
+    ensures told { HasOutcome (λ catalog. catalog) result (built_catalog name.now text.now) }
+    ensures cause { (before after : ℕ) → FileCause result before after }
     ensures lawful { IfOk result IsLawful }
-    ensures built { IfOk result (λ catalog. All IsBuilt (drop 9 catalog.collations)) }
 {
     match read_catalog(alloc, text) {
         Ok(catalog) => check_built(alloc, name, catalog),
-        Err(fault) => Err(refused_catalog(alloc, name, &fault)),
+        Err(fault) => Err(catalog_refusal(alloc, name, &fault)),
     }
 }
 
 /// The catalog without declarations.
-fn plain(alloc: Global) -> Result<Catalog, BookFault>
+fn plain(alloc: Global) -> Result<Catalog, FileFault>
     ensures is { IfOk result (λ catalog. catalog ≡ plain) }
-    ensures memory { IfErr result (λ fault. fault ≡ BookFault.NoMemory) }
+    ensures memory { IfErr result (λ fault. fault ≡ FileFault.NoMemory) }
     ensures lawful { IfOk result IsLawful }
 {
     match plain_catalog(alloc) {
         Ok(catalog) => Ok(catalog),
-        Err(NoMemory) => Err(BookFault::NoMemory),
+        Err(NoMemory) => Err(FileFault::NoMemory),
     }
 }
 
 /// The catalog of this name, or the one without declarations where none is named.
-#[tactic(auto, unfolding(crate::specs::Outcome::catalog_outcome), using(crate::proofs::OpeningSteps::unread))]
+#[tactic(auto, unfolding(crate::specs::Outcome::named_catalog), using(crate::proofs::Told::unread))]
 pub fn open_catalog<F: Files>(
     alloc: Global,
     files: &mut F,
     name: Option<&Text>,
-) -> Result<Catalog, BookFault>
+) -> Result<Catalog, FileFault>
     ensures kept { F.contents files.new ≡ F.contents files.old }
     ensures later { F.faults files.old ≤ F.faults files.new }
     ensures told { IfSome (F.contents files.old) (λ told.
-        HasOutcome (λ catalog. catalog) result (catalog_outcome told (option_copied name.entry))) }
-    ensures cause { BookCause result (F.faults files.old) (F.faults files.new) }
+        HasOutcome (λ catalog. catalog) result
+        (named_catalog told (option_copied name.entry))) }
+    ensures cause { FileCause result (F.faults files.old) (F.faults files.new) }
     ensures lawful { IfOk result IsLawful }
-    ensures built { IfOk result (λ catalog. All IsBuilt (drop 9 catalog.collations)) }
 {
     let Some(name) = name else {
         return plain(alloc);

@@ -11,9 +11,8 @@ ghost use Rattle.mycoll.specs.Literals.{
   HasUtf8,
 };
 
-use crate::set_names::set_named;
 use mc_base::{NoMemory, Text};
-use mc_charset::Charset;
+use mc_charset::{Charset, charset_by_name};
 use mc_token::{Lexeme, Token};
 use std::alloc::Global;
 
@@ -77,7 +76,7 @@ fn introducer(word: &[u8]) -> Option<Charset>
     ensures { result ≡ introducer word.now }
 {
     match word {
-        [b'_', name @ ..] => set_named(name),
+        [b'_', name @ ..] => charset_by_name(name),
         _ => None,
     }
 }

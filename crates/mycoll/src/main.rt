@@ -1,19 +1,20 @@
 //! `mycoll`: the answers of MySQL 8.0's rules for strings to a script of SQL statements.
 //!
 //! `run` carries the theorem of the program: the bytes written are the answers to the script's
-//! statements, in order. Its definitions stand in `specs/`: read `Words`, `Outcome`, `Literals`,
-//! `Queries`, `Values`, `Answers`, `Print` and `Run` in that order. In `src/` the files go through
-//! `words`, `catalog_file`, `script` and `opening`, and a statement through `literal`, `query`,
-//! `values`, `cells`, `answer`, `answering` and `output`.
+//! statements, in order. An answer is a relation between a statement, the world that it is answered
+//! by (the catalog, and what its collations mean), and the states before and behind it.
+//!
+//! Its definitions stand in `specs/`: read `Words`, `Outcome`, `Literals`, `Queries`, `Values`,
+//! `World`, `Forms`, `Print`, `Answers`, `Answering` and `Run` in that order. In `src/` the files go
+//! through `words`, `catalog_file`, `script` and `opening`, and a statement through `literal`,
+//! `query`, `values`, `forms`, `answering`, `print` and `output`; `run` joins them.
 #![tactic(auto)]
 
-mod answer;
 mod answering;
 mod catalog_file;
 #[cfg(test)]
 mod catalog_tests;
-mod cells;
-mod engine;
+mod forms;
 mod literal;
 mod marks;
 mod messages;
@@ -23,10 +24,11 @@ mod output;
 mod print;
 mod query;
 mod run;
+mod said;
 mod script;
 #[cfg(test)]
 mod script_tests;
-mod set_names;
+mod session;
 mod status;
 #[cfg(test)]
 mod tests;
@@ -42,7 +44,7 @@ use std::process::ExitCode;
 
 /// Marks the counter of comparisons.
 #[derive(Drop)]
-struct OperandValue;
+struct Compared;
 
 /// Marks the counter of rows that are fetched.
 #[derive(Drop)]
@@ -55,7 +57,7 @@ fn main(rt: HostRuntime) -> ExitCode {
             words.as_slice(),
             &mut RealFiles::new(rt),
             &mut RealSink::new(rt),
-            &mut Steps::start(OperandValue),
+            &mut Steps::start(Compared),
             &mut Steps::start(Fetched),
         ),
         Err(NoMemory) => Status::NoMemory,

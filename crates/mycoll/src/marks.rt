@@ -1,6 +1,6 @@
 ghost use Rattle.std.specs.List.{list_any};
-ghost use Rattle.std.specs.Prelude.{◌≡◌, None, Some, MatchOption, nat_eq};
-ghost use lib.Pointwise.{pointwise};
+ghost use Rattle.std.specs.Prelude.{◌≡◌, None, Some, MatchOption};
+ghost use Rattle.std.specs.Str.{bytes_eq};
 ghost use Rattle.mc_sql.specs.Classes.{is_reserved};
 ghost use Rattle.mycoll.specs.Queries.{
   is_word,
@@ -9,7 +9,7 @@ ghost use Rattle.mycoll.specs.Queries.{
   is_right_paren,
   after,
   after_call,
-  name_of,
+  token_name,
   name_front,
   are_one_close,
   are_two_closes,
@@ -150,7 +150,7 @@ const RESERVED_WORDS: [&[u8]; 36] = [
 
 /// Whether a word is one of these.
 fn is_among(word: &[u8], words: &[&[u8]]) -> bool
-    ensures { result ≡ list_any (λ other. pointwise nat_eq word.now other.now) words.now }
+    ensures { result ≡ list_any (λ other. bytes_eq word.now other.now) words.now }
 {
     words.iter().any(|other| word == *other)
 }

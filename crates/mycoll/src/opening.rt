@@ -1,10 +1,7 @@
 ghost use Rattle.std.specs.Option.{option_copied};
-ghost use Rattle.std.specs.Prelude.{◌≡◌, ◌≤◌, All, IfOk, IfSome, IsUtf8, drop, length};
-ghost use Rattle.mc_book.specs.Any.{any_meaning};
-ghost use Rattle.mc_book.specs.BookOutcome.{IsBuilt};
-ghost use Rattle.mc_book.specs.FileOutcome.{greatest_file};
-ghost use Rattle.mc_book.specs.Meanings.{FitsCatalog, any_at, meanings, meaning_at};
-ghost use Rattle.mc_book.specs.Told.{HasOutcome, BookCause};
+ghost use Rattle.std.specs.Prelude.{◌≡◌, ◌≤◌, IfOk, IfSome, IsUtf8, length};
+ghost use Rattle.mc_base.specs.FileOutcome.{greatest_file, FileCause, HasOutcome};
+ghost use Rattle.mc_book.specs.Meanings.{meaning_at, meanings};
 ghost use Rattle.mc_catalog.specs.Lawful.{IsLawful};
 ghost use Rattle.mycoll.specs.Opened.{IsSound, accepted_of};
 ghost use Rattle.mycoll.specs.Outcome.{with_book, with_script, files_outcome};
@@ -12,8 +9,8 @@ ghost use Rattle.mycoll.specs.Outcome.{with_book, with_script, files_outcome};
 use crate::catalog_file::open_catalog;
 use crate::script::open_script;
 use crate::words::NamedFiles;
-use mc_base::{Files, Text};
-use mc_book::{AnyBook, BookFault, build_book};
+use mc_base::{FileFault, Files, Text};
+use mc_book::{AnyBook, build_book};
 use mc_catalog::Catalog;
 use std::alloc::Global;
 
@@ -26,22 +23,21 @@ pub struct Opened {
 }
 
 /// A catalog and a script, with the book of the collations.
-#[tactic(auto, unfolding(crate::specs::Outcome::with_book), using(crate::proofs::OpeningSteps::unread))]
+#[tactic(auto, unfolding(crate::specs::Outcome::with_book), using(crate::proofs::Told::unread))]
 fn open_book<F: Files>(
     alloc: Global,
     files: &mut F,
     catalog: Catalog,
     script: Text,
-) -> Result<Opened, BookFault>
+) -> Result<Opened, FileFault>
     requires lawful { IsLawful catalog }
-    requires built { All IsBuilt (drop 9 catalog.collations) }
     requires utf8 { IsUtf8 script }
     requires short { length script ≤ greatest_file }
     ensures kept { F.contents files.new ≡ F.contents files.old }
     ensures later { F.faults files.old ≤ F.faults files.new }
     ensures told { IfSome (F.contents files.old) (λ told.
         HasOutcome accepted_of result (with_book told catalog script)) }
-    ensures cause { BookCause result (F.faults files.old) (F.faults files.new) }
+    ensures cause { FileCause result (F.faults files.old) (F.faults files.new) }
     ensures sound { IfOk result IsSound }
 {
     match build_book(alloc, &catalog, files) {
@@ -55,20 +51,19 @@ fn open_book<F: Files>(
 }
 
 /// A catalog, with the script of this name and the book.
-#[tactic(auto, unfolding(crate::specs::Outcome::with_script), using(crate::proofs::OpeningSteps::unread))]
+#[tactic(auto, unfolding(crate::specs::Outcome::with_script), using(crate::proofs::Told::unread))]
 fn open_rest<F: Files>(
     alloc: Global,
     files: &mut F,
     script: &Text,
     catalog: Catalog,
-) -> Result<Opened, BookFault>
-    requires lawful { IsLawful catalog }
-    requires built { All IsBuilt (drop 9 catalog.collations) }
+) -> Result<Opened, FileFault>
+    requires { IsLawful catalog }
     ensures kept { F.contents files.new ≡ F.contents files.old }
     ensures later { F.faults files.old ≤ F.faults files.new }
     ensures told { IfSome (F.contents files.old) (λ told.
         HasOutcome accepted_of result (with_script told script.now catalog)) }
-    ensures cause { BookCause result (F.faults files.old) (F.faults files.new) }
+    ensures cause { FileCause result (F.faults files.old) (F.faults files.new) }
     ensures sound { IfOk result IsSound }
 {
     match open_script(alloc, files, script) {
@@ -79,17 +74,20 @@ fn open_rest<F: Files>(
 
 /// Opens the files that are named: the catalog, the script, and the table of each declared
 /// collation in the order of the catalog. Each is read whole and parsed before the next is opened.
-#[tactic(auto, unfolding(crate::specs::Outcome::files_outcome), using(crate::proofs::OpeningSteps::unread))]
+#[tactic(auto, unfolding(crate::specs::Outcome::files_outcome), using(crate::proofs::Told::unread))]
 pub fn open_files<F: Files>(
     alloc: Global,
     files: &mut F,
     named: NamedFiles<'_>,
-) -> Result<Opened, BookFault>
+) -> Result<Opened, FileFault>
     ensures kept { F.contents files.new ≡ F.contents files.old }
     ensures later { F.faults files.old ≤ F.faults files.new }
     ensures told { IfSome (F.contents files.old) (λ told. HasOutcome accepted_of result
-        (files_outcome told (record { catalog = option_copied named.entry.catalog; script = named.entry.script.now }))) }
-    ensures cause { BookCause result (F.faults files.old) (F.faults files.new) }
+        (files_outcome told (record {
+          catalog = option_copied named.entry.catalog;
+          script = named.entry.script.now;
+        }))) }
+    ensures cause { FileCause result (F.faults files.old) (F.faults files.new) }
     ensures sound { IfOk result IsSound }
 {
     match open_catalog(alloc, files, named.catalog) {

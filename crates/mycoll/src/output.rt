@@ -1,8 +1,13 @@
-ghost use Rattle.std.specs.Prelude.{◌≡◌, ◌≤◌};
+ghost use Rattle.std.specs.Prelude.{◌≡◌, ◌≤◌, IfOk};
+ghost use Rattle.mycoll.specs.Answers.{is_refusal};
+ghost use Rattle.mycoll.specs.Print.{said_text, HasTexts};
 ghost use Rattle.mycoll.specs.Answering.{Written, StopCause};
 ghost use Rattle.mycoll.specs.declared.output.Stopped.TheVariants.{NoMemory as OutOfMemory};
 
+use crate::print::{answer_text, refusal_text};
+use crate::said::Said;
 use mc_base::{NoMemory, PutAnswer, Sink};
+use std::alloc::Global;
 
 /// Why writing stopped.
 #[derive(Clone, Copy, Debug, PartialEq, Eq)]
@@ -31,5 +36,29 @@ pub fn write_bytes<S: Sink>(out: &mut S, bytes: &[u8]) -> Result<(), Stopped>
         PutAnswer::Done => Ok(()),
         PutAnswer::Failed => Err(Stopped::Fault),
         PutAnswer::NoMemory => Err(Stopped::NoMemory),
+    }
+}
+
+/// Writes an answer in one call of the sink, or in none where nothing is said, and tells whether it
+/// is a refusal.
+pub fn write_said<S: Sink>(alloc: Global, said: Said, out: &mut S) -> Result<bool, Stopped>
+    requires { HasTexts said }
+    ensures later { S.faults out.old ≤ S.faults out.new }
+    ensures told { Written (said_text said) result (S.written out.old) (S.written out.new) }
+    ensures refused { IfOk result (λ refused. refused ≡ is_refusal said) }
+    ensures cause { StopCause result (S.faults out.old) (S.faults out.new) }
+{
+    match said {
+        Said::Table(answer) => {
+            let text = answer_text(alloc, &answer)?;
+            write_bytes(out, text.as_slice())?;
+            Ok(false)
+        }
+        Said::Refused(refusal) => {
+            let text = refusal_text(alloc, &refusal)?;
+            write_bytes(out, text.as_slice())?;
+            Ok(true)
+        }
+        Said::Nothing => Ok(false),
     }
 }

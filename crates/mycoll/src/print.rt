@@ -1,14 +1,28 @@
 ghost use Rattle.mc_charset.specs.Chars.{IsWellFormed};
-ghost use Rattle.mc_convert.specs.Conversion.{is_binary};
 ghost use Rattle.mycoll.specs.Outcome.{refused_line};
-ghost use Rattle.mycoll.specs.Print.{is_escaped, escaped_byte, escaped, text_cell, cell, refusal_line};
-ghost use Rattle.std.specs.List.{position_or_len};
-ghost use Rattle.std.specs.Prelude.{◌≡◌, ◌≤◌, ◌++◌, OnOk, IfOk, IfSome, codes, length};
+ghost use Rattle.mycoll.specs.Print.{
+  is_escaped,
+  escaped_byte,
+  as_written,
+  line,
+  tab,
+  tabbed,
+  text_cell,
+  cell,
+  answer_text,
+  refusal_line,
+  IsTextOfSet,
+};
+ghost use Rattle.std.specs.Fmt.{signed_decimal};
+ghost use Rattle.std.specs.List.{flat_map, position_or_len};
+ghost use Rattle.std.specs.Prelude.{◌≡◌, ◌≤◌, ◌∷◌, ◌++◌, All, OnOk, IfOk, length};
 
-use crate::values::{converted_text, hex_text};
+use crate::said::{Answer, Value};
+use crate::values::hex_text;
 use itoa::Buffer;
-use mc_base::{FileRefusal, NoMemory, Refusal, Text};
+use mc_base::{FileRefusal, List, NoMemory, Refusal, Text};
 use mc_charset::Charset;
+use mc_convert::convert;
 use std::alloc::Global;
 
 /// Whether a byte is written by an escape.
@@ -46,9 +60,9 @@ fn push_escape(out: &mut Text, byte: u8) -> Result<(), NoMemory>
 
 /// Appends a header or a text as it is written.
 // The bytes between two escapes are copied as one slice.
-#[tactic(auto, unfolding(crate::specs::Print::escaped))]
+#[tactic(auto, unfolding(crate::specs::Print::as_written))]
 pub fn push_escaped(out: &mut Text, text: &[u8]) -> Result<(), NoMemory>
-    ensures { OnOk result (out.new ≡ out.old ++ escaped text.now) }
+    ensures { OnOk result (out.new ≡ out.old ++ as_written text.now) }
 {
     let mut rest = text;
     loop {
@@ -62,32 +76,101 @@ pub fn push_escaped(out: &mut Text, text: &[u8]) -> Result<(), NoMemory>
     }
 }
 
-/// A text of a set as a cell: bytes in hexadecimal digits, characters in UTF-8.
-fn text_cell(alloc: Global, set: Charset, text: &[u8]) -> Result<Text, NoMemory>
+/// Appends a text of a set as a cell: bytes in hexadecimal digits, characters in UTF-8.
+fn push_text_cell(alloc: Global, out: &mut Text, set: Charset, text: &[u8]) -> Result<(), NoMemory>
     requires { IsWellFormed set text.now }
-    ensures { IfOk result (λ cell. cell ≡ text_cell set text.now) }
+    ensures { OnOk result (out.new ≡ out.old ++ text_cell set text.now) }
 {
     if set == Charset::Binary {
-        let mut cell = Text::from_slice(alloc, b"0x")?;
-        cell.extend_from_slice(hex_text(alloc, text)?.as_slice())?;
-        return Ok(cell);
+        out.extend_from_slice(b"0x")?;
+        return out.extend_from_slice(hex_text(alloc, text)?.as_slice());
     }
-    let characters = converted_text(alloc, set, Charset::Utf8mb4, text)?;
-    let mut cell = Text::new(alloc);
-    push_escaped(&mut cell, characters.as_slice())?;
-    Ok(cell)
+    push_escaped(out, convert(alloc, set, Charset::Utf8mb4, text)?.as_slice())
 }
 
-/// A value of a set as a cell, None being NULL.
+/// Appends a number in decimal digits.
+fn push_int(out: &mut Text, number: i64) -> Result<(), NoMemory>
+    ensures { OnOk result (out.new ≡ out.old ++ signed_decimal number) }
+{
+    let mut buffer = Buffer::new();
+    out.extend_from_slice(buffer.format(number).as_bytes())
+}
+
+/// Appends a value as a cell.
 #[tactic(auto, unfolding(crate::specs::Print::cell))]
-pub fn cell(alloc: Global, set: Charset, value: &Option<Text>) -> Result<Text, NoMemory>
-    requires { IfSome value.now (IsWellFormed set) }
-    ensures { IfOk result (λ text. text ≡ cell set value.now) }
+fn push_cell(alloc: Global, out: &mut Text, value: &Value) -> Result<(), NoMemory>
+    requires { IsTextOfSet value.now }
+    ensures { OnOk result (out.new ≡ out.old ++ cell value.now) }
 {
     match value {
-        Some(text) => text_cell(alloc, set, text.as_slice()),
-        None => Text::from_slice(alloc, b"NULL"),
+        Value::Null => out.extend_from_slice(b"NULL"),
+        Value::Int(number) => push_int(out, *number),
+        Value::Str { charset, text } => push_text_cell(alloc, out, *charset, text.as_slice()),
     }
+}
+
+/// Appends headers, a TAB between two.
+fn push_header(out: &mut Text, names: &[Text]) -> Result<(), NoMemory>
+    ensures { OnOk result (out.new ≡ out.old ++ tabbed as_written names.now) }
+{
+    let Some((first, others)) = names.split_first() else {
+        return Ok(());
+    };
+    push_escaped(out, first.as_slice())?;
+    for name in others {
+        out.push(b'\t')?;
+        push_escaped(out, name.as_slice())?;
+    }
+    Ok(())
+}
+
+/// Appends values, a TAB before each.
+fn push_more(alloc: Global, out: &mut Text, values: &[Value]) -> Result<(), NoMemory>
+    requires { All IsTextOfSet values.now }
+    ensures { OnOk result (out.new ≡ out.old ++ flat_map (λ next. tab ∷ cell next) values.now) }
+{
+    for value in values {
+        out.push(b'\t')?;
+        push_cell(alloc, out, value)?;
+    }
+    Ok(())
+}
+
+/// Appends the values of a row, a TAB between two.
+fn push_row(alloc: Global, out: &mut Text, row: &[Value]) -> Result<(), NoMemory>
+    requires { All IsTextOfSet row.now }
+    ensures { OnOk result (out.new ≡ out.old ++ tabbed cell row.now) }
+{
+    let Some((first, others)) = row.split_first() else {
+        return Ok(());
+    };
+    push_cell(alloc, out, first)?;
+    push_more(alloc, out, others)
+}
+
+/// Appends a line a row.
+fn push_rows(alloc: Global, out: &mut Text, rows: &[List<Value>]) -> Result<(), NoMemory>
+    requires { All (All IsTextOfSet) rows.now }
+    ensures { OnOk result (out.new ≡ out.old ++ flat_map (λ row. line (tabbed cell row)) rows.now) }
+{
+    for row in rows {
+        push_row(alloc, out, row.as_slice())?;
+        out.push(b'\n')?;
+    }
+    Ok(())
+}
+
+/// The lines of a table: its headers, then a line a row.
+#[tactic(auto, unfolding(crate::specs::Print::answer_text))]
+pub fn answer_text(alloc: Global, answer: &Answer) -> Result<Text, NoMemory>
+    requires { All (All IsTextOfSet) answer.now.rows }
+    ensures { IfOk result (λ text. text ≡ answer_text answer.now) }
+{
+    let mut text = Text::new(alloc);
+    push_header(&mut text, answer.header.as_slice())?;
+    text.push(b'\n')?;
+    push_rows(alloc, &mut text, answer.rows.as_slice())?;
+    Ok(text)
 }
 
 /// The line of a refused statement.

@@ -95,7 +95,7 @@ fn are_compared(left: &Operand, right: &Operand) -> bool
 }
 
 /// The comparison that the tokens are: an operand, `=`, and an operand.
-#[tactic(auto, unfolding(crate::specs::Queries::comparison_of), using(crate::proofs::LiteralSteps::after_utf8, crate::proofs::LiteralSteps::drop_utf8))]
+#[tactic(auto, unfolding(crate::specs::Queries::comparison_of), using(crate::proofs::Texts::kept))]
 fn read_comparison(alloc: Global, tokens: &[Token]) -> Result<Option<Form>, NoMemory>
     requires { HaveUtf8Texts tokens.now }
     ensures read { IfOk result (λ found. found ≡ comparison_of tokens.now) }
@@ -160,7 +160,7 @@ fn read_hex_of_conversion(alloc: Global, tokens: &[Token]) -> Result<Option<Form
 }
 
 /// The form that the tokens behind SELECT are of.
-#[tactic(auto, unfolding(crate::specs::Queries::form_of), using(crate::proofs::LiteralSteps::after_utf8))]
+#[tactic(auto, unfolding(crate::specs::Queries::form_of), using(crate::proofs::Texts::kept))]
 fn read_form(alloc: Global, body: &[Token]) -> Result<Option<Form>, NoMemory>
     requires { HaveUtf8Texts body.now }
     ensures read { IfOk result (λ found. found ≡ form_of body.now) }
@@ -200,7 +200,7 @@ fn header_of(tokens: &[Token]) -> Span
 }
 
 /// What the tokens of a statement ask, where they are SELECT and one of the forms.
-#[tactic(auto, unfolding(crate::specs::Queries::query_of), using(crate::proofs::LiteralSteps::after_utf8))]
+#[tactic(auto, unfolding(crate::specs::Queries::query_of), using(crate::proofs::Texts::kept))]
 pub fn read_query(alloc: Global, tokens: &[Token]) -> Result<Option<Query>, NoMemory>
     requires { HaveUtf8Texts tokens.now }
     ensures read { IfOk result (λ found. found ≡ query_of tokens.now) }

@@ -1,15 +1,14 @@
 ghost use Rattle.std.specs.Option.{option_copied};
 ghost use Rattle.std.specs.Prelude.{◌≡◌, ◌≤◌, IfSome, Some};
-ghost use Rattle.mc_base.specs.Sink.{appended};
 ghost use Rattle.mycoll.specs.Answering.{AnswersWritten, Written, StopCause};
-ghost use Rattle.mycoll.specs.Answers.{answers};
+ghost use Rattle.mycoll.specs.Answers.{OneAnswer};
 ghost use Rattle.mycoll.specs.Opened.{IsSound, accepted_of};
 ghost use Rattle.mycoll.specs.Outcome.{refused_line};
 ghost use Rattle.mycoll.specs.Run.{
-  plan,
-  files_plan,
-  setting_of,
-  one_line,
+  accepted_state,
+  accepted_world,
+  task,
+  files_task,
   answered_status,
   line_status,
   HasWritten,
@@ -18,17 +17,16 @@ ghost use Rattle.mycoll.specs.Run.{
   WriteCause,
   FitsWords,
 };
-ghost use Rattle.mycoll.specs.Words.{named_files, usage_line};
+ghost use Rattle.mycoll.specs.Words.{named_files};
 
 use crate::answering::answer_script;
-use crate::engine::Connection;
 use crate::opening::{Opened, open_files};
 use crate::output::{Stopped, write_bytes};
 use crate::print::refused_text;
+use crate::session::Session;
 use crate::status::Status;
 use crate::words::{NamedFiles, named_files};
-use mc_base::{FileRefusal, Files, NoMemory, Sink, Steps, Text};
-use mc_book::BookFault;
+use mc_base::{FileFault, FileRefusal, Files, NoMemory, Sink, Steps, Text};
 use std::alloc::Global;
 
 const USAGE: &[u8] = b"usage: mycoll [CATALOG] SCRIPT | --make N\n";
@@ -73,12 +71,23 @@ fn write_refusal<S: Sink>(alloc: Global, refusal: &FileRefusal, out: &mut S) -> 
 fn answer_opened<S: Sink>(alloc: Global, opened: &Opened, out: &mut S) -> Result<bool, Stopped>
     requires { IsSound opened.now }
     ensures later { S.faults out.old ≤ S.faults out.new }
-    ensures told { AnswersWritten (answers (setting_of (accepted_of opened.now)) opened.now.script) result
+    ensures told { let accepted = accepted_of opened.now in
+        AnswersWritten (accepted_world accepted) (accepted_state accepted) accepted.script result
         (S.written out.old) (S.written out.new) }
     ensures cause { StopCause result (S.faults out.old) (S.faults out.new) }
 {
-    let connection = Connection::new(&opened.catalog, &opened.book);
-    answer_script(alloc, &connection, opened.script.as_slice(), out)
+    let mut session = Session {
+        connection: opened.catalog.connection,
+    };
+    let script = opened.script.as_slice();
+    answer_script(
+        alloc,
+        &opened.catalog,
+        &opened.book,
+        &mut session,
+        script,
+        out,
+    )
 }
 
 /// Answers the script of these files.
@@ -89,30 +98,37 @@ fn run_files<F: Files, S: Sink>(
     out: &mut S,
 ) -> Status
     ensures kept { F.contents files.new ≡ F.contents files.old }
-    ensures told { IfSome (F.contents files.old) (λ told. HasWritten (files_plan told
-        (record { catalog = option_copied named.entry.catalog; script = named.entry.script.now })) result
-        (S.written out.old) (S.written out.new)) }
+    ensures told { IfSome (F.contents files.old) (λ told. HasWritten
+        (files_task told (record {
+          catalog = option_copied named.entry.catalog;
+          script = named.entry.script.now;
+        }))
+        result (S.written out.old) (S.written out.new)) }
     ensures read { ReadCause result (F.faults files.old) (F.faults files.new)
         (S.written out.old) (S.written out.new) }
     ensures write { WriteCause result (S.faults out.old) (S.faults out.new) }
-    ensures form { FitsWords (Some (record { catalog = option_copied named.entry.catalog; script = named.entry.script.now })) result }
+    ensures form { FitsWords
+        (Some (record {
+          catalog = option_copied named.entry.catalog;
+          script = named.entry.script.now;
+        })) result }
 {
     match open_files(alloc, files, named) {
         Ok(opened) => answered_status(answer_opened(alloc, &opened, out)),
-        Err(BookFault::Refused(refusal)) => {
+        Err(FileFault::Refused(refusal)) => {
             line_status(Status::FilesRefused, write_refusal(alloc, &refusal, out))
         }
-        Err(BookFault::Fault) => Status::ReadFault,
-        Err(BookFault::NoMemory) => Status::NoMemory,
+        Err(FileFault::Fault) => Status::ReadFault,
+        Err(FileFault::NoMemory) => Status::NoMemory,
     }
 }
 
 /// Answers the words after the program's name. Words of no form are answered with the usage line.
-#[tactic(auto, unfolding(crate::specs::Run::plan))]
+#[tactic(auto, unfolding(crate::specs::Run::task))]
 fn run_words<F: Files, S: Sink>(alloc: Global, words: &[Text], files: &mut F, out: &mut S) -> Status
     ensures kept { F.contents files.new ≡ F.contents files.old }
-    ensures told { IfSome (plan (F.contents files.old) words.now) (λ all.
-        HasWritten all result (S.written out.old) (S.written out.new)) }
+    ensures told { IfSome (task (F.contents files.old) words.now) (λ asked.
+        HasWritten asked result (S.written out.old) (S.written out.new)) }
     ensures read { ReadCause result (F.faults files.old) (F.faults files.new)
         (S.written out.old) (S.written out.new) }
     ensures write { WriteCause result (S.faults out.old) (S.faults out.new) }
@@ -132,8 +148,8 @@ fn run_words<F: Files, S: Sink>(alloc: Global, words: &[Text], files: &mut F, ou
 /// then the table of each declared collation in the order of the catalog; each is at most
 /// 16,777,216 bytes and is parsed before the next one is opened, and the first that is refused ends
 /// the run with its line. The script is UTF-8. Its statements are answered in order, each by one
-/// call of the sink; a refused one is answered with its `ERROR` line, and the run goes on. Without a
-/// catalog the collations are the built-in ones, and the connection's is `utf8mb4_bin` (MySQL 8.0
+/// call of the sink; a refused one is answered with its `ERROR` line, and the run goes on. Without
+/// a catalog the collations are the built-in ones, and the connection's is `utf8mb4_bin` (MySQL 8.0
 /// manual, 10.8.5 and 10.10.1).
 pub fn run<F: Files, S: Sink, W, L>(
     alloc: Global,
@@ -143,12 +159,14 @@ pub fn run<F: Files, S: Sink, W, L>(
     work: &mut Steps<W>,
     steps: &mut Steps<L>,
 ) -> Status
-    // The bytes written are the plan's: for accepted files the statements' answers, in order.
-    ensures told { IfSome (plan (F.contents files.old) words.now) (λ all.
-        HasWritten all result (S.written out.old) (S.written out.new)) }
-    // Where neither count rose, the run ends as the plan says, unless memory ran out.
-    ensures complete { IfSome (plan (F.contents files.old) words.now) (λ all.
-        IsComplete all result (F.faults files.old) (F.faults files.new)
+    // The bytes written are the task's: for accepted files the statements' answers, in order.
+    ensures told { IfSome (task (F.contents files.old) words.now) (λ asked.
+        HasWritten asked result (S.written out.old) (S.written out.new)) }
+    // A statement has at most one answer, so these are the answers.
+    ensures once { OneAnswer }
+    // Where neither count rose, the task was done, unless memory ran out.
+    ensures complete { IfSome (task (F.contents files.old) words.now) (λ asked.
+        IsComplete asked result (F.faults files.old) (F.faults files.new)
         (S.faults out.old) (S.faults out.new)) }
     ensures read { ReadCause result (F.faults files.old) (F.faults files.new)
         (S.written out.old) (S.written out.new) }

@@ -11,12 +11,10 @@ ghost use Rattle.std.specs.Prelude.{
   length,
 };
 ghost use Rattle.std.specs.Str.Lossy.{utf8_valid_len};
-ghost use Rattle.mc_book.specs.FileOutcome.{greatest_file};
-ghost use Rattle.mc_book.specs.Told.{HasOutcome, BookCause};
-ghost use Rattle.mycoll.specs.Outcome.{script_outcome, utf8_outcome};
+ghost use Rattle.mc_base.specs.FileOutcome.{greatest_file, FileCause, HasOutcome};
+ghost use Rattle.mycoll.specs.Outcome.{named_script, utf8_outcome};
 
-use mc_base::{Files, Text};
-use mc_book::{BookFault, read_file, refused};
+use mc_base::{FileFault, Files, Text, read_file, refuse_file};
 use std::alloc::Global;
 
 /// How long the longest prefix that is UTF-8 is, where the text isn't UTF-8 itself.
@@ -32,25 +30,25 @@ fn valid_prefix(text: &[u8]) -> Option<usize>
 }
 
 /// The text, if it is UTF-8.
-fn check_utf8(alloc: Global, name: &Text, text: Text) -> Result<Text, BookFault>
+fn check_utf8(alloc: Global, name: &Text, text: Text) -> Result<Text, FileFault>
     ensures told { HasOutcome (λ script. script) result (utf8_outcome name.now text) }
-    ensures cause { (before after : ℕ) → BookCause result before after }
+    ensures cause { (before after : ℕ) → FileCause result before after }
     ensures utf8 { IfOk result (λ script. (script ≡ text) × IsUtf8 script) }
 {
     match valid_prefix(text.as_slice()) {
         None => Ok(text),
-        Some(valid) => Err(refused(alloc, name, b"NotUtf8", valid as u64)),
+        Some(valid) => Err(refuse_file(alloc, name, b"NotUtf8", valid as u64)),
     }
 }
 
 /// The script of this name, which is UTF-8 and at most 16,777,216 bytes long.
-#[tactic(auto, unfolding(crate::specs::Outcome::script_outcome), using(crate::proofs::OpeningSteps::unread))]
-pub fn open_script<F: Files>(alloc: Global, files: &mut F, name: &Text) -> Result<Text, BookFault>
+#[tactic(auto, unfolding(crate::specs::Outcome::named_script), using(crate::proofs::Told::unread))]
+pub fn open_script<F: Files>(alloc: Global, files: &mut F, name: &Text) -> Result<Text, FileFault>
     ensures kept { F.contents files.new ≡ F.contents files.old }
     ensures later { F.faults files.old ≤ F.faults files.new }
     ensures told { IfSome (F.contents files.old) (λ told.
-        HasOutcome (λ script. script) result (script_outcome told name.now)) }
-    ensures cause { BookCause result (F.faults files.old) (F.faults files.new) }
+        HasOutcome (λ script. script) result (named_script told name.now)) }
+    ensures cause { FileCause result (F.faults files.old) (F.faults files.new) }
     ensures utf8 { IfOk result (λ script. IsUtf8 script) }
     ensures short { IfOk result (λ script. length script ≤ greatest_file) }
 {

@@ -1,17 +1,15 @@
 ghost use Rattle.mc_charset.specs.Chars.{IsWellFormed};
 ghost use Rattle.mc_charset.specs.declared.charset.Charset.TheVariants.{Utf8mb4, Binary};
-ghost use Rattle.mc_convert.specs.Conversion.{is_binary};
+ghost use Rattle.mc_convert.specs.Conversion.{converted_text, is_binary, taken_for};
 ghost use Rattle.mycoll.specs.Literals.{HasUtf8};
 ghost use Rattle.mycoll.specs.Unanswered.{IsWanted};
 ghost use Rattle.mycoll.specs.Values.{
-  limited,
-  converted_text,
-  taken_for,
+  within_limit,
   literal_set,
   introduced_text,
   literal_text,
   conversion,
-  hex_digit,
+  upper_digit,
   hex_digits,
   hex_value,
 };
@@ -21,7 +19,7 @@ use crate::literal::Literal;
 use crate::messages::invalid_string;
 use crate::unanswered::{Unanswered, refused};
 use mc_base::{NoMemory, Text};
-use mc_charset::{Charset, bytes_law, chars_law, utf8_law};
+use mc_charset::{Charset, bytes_law, utf8_law};
 use mc_convert::{convert, reinterpret};
 use std::alloc::Global;
 
@@ -29,8 +27,8 @@ use std::alloc::Global;
 const GREATEST_STRING: usize = 1_048_576;
 
 /// The text as a value: None, which is NULL, where it is too long.
-pub fn limited(text: Text) -> Option<Text>
-    ensures is { result ≡ limited text }
+pub fn within_limit(text: Text) -> Option<Text>
+    ensures is { result ≡ within_limit text }
     ensures same { IfSome result (λ kept. kept ≡ text) }
 {
     if text.len() <= GREATEST_STRING {
@@ -38,30 +36,6 @@ pub fn limited(text: Text) -> Option<Text>
     } else {
         None
     }
-}
-
-/// A well-formed text in another set, with `?` for a character that the set lacks.
-pub fn converted_text(
-    alloc: Global,
-    from: Charset,
-    to: Charset,
-    text: &[u8],
-) -> Result<Text, NoMemory>
-    requires { IsWellFormed from text.now }
-    ensures is { IfOk result (λ converted. converted ≡ converted_text from to text.now) }
-    ensures well_formed { IfOk result (λ converted. IsWellFormed to converted) }
-{
-    bytes_law(text);
-    convert(alloc, from, to, text)
-}
-
-/// The bytes as a text of a set, behind zero bytes up to whole units; None where they are none.
-fn taken_for(alloc: Global, set: Charset, bytes: &[u8]) -> Result<Option<Text>, NoMemory>
-    ensures is { IfOk result (λ taken. taken ≡ taken_for set bytes.now) }
-    ensures well_formed { IfOk result (λ taken. IfSome taken (IsWellFormed set)) }
-{
-    chars_law();
-    reinterpret(alloc, set, bytes)
 }
 
 /// The set of a literal, beside that of the connection.
@@ -83,7 +57,7 @@ fn script_text(alloc: Global, set: Charset, text: &[u8]) -> Result<Text, NoMemor
     ensures well_formed { IfOk result (λ found. IsWellFormed set found) }
 {
     utf8_law();
-    converted_text(alloc, Charset::Utf8mb4, set, text)
+    convert(alloc, Charset::Utf8mb4, set, text)
 }
 
 /// The bytes as they stand.
@@ -100,7 +74,7 @@ fn introduced_text(alloc: Global, set: Charset, bytes: &[u8]) -> Result<Text, Un
     ensures is { IsWanted result (introduced_text set (taken_for set bytes.now)) }
     ensures well_formed { IfOk result (λ text. IsWellFormed set text) }
 {
-    match taken_for(alloc, set, bytes)? {
+    match reinterpret(alloc, set, bytes)? {
         Some(text) => Ok(text),
         None => Err(refused(invalid_string(alloc, set))),
     }
@@ -115,7 +89,8 @@ pub fn literal_text(
 ) -> Result<Text, Unanswered>
     requires { HasUtf8 literal.now }
     ensures is { IsWanted result (literal_text connection literal.now) }
-    ensures well_formed { IfOk result (λ text. IsWellFormed (literal_set connection literal.now) text) }
+    ensures well_formed { IfOk result (λ text.
+        IsWellFormed (literal_set connection literal.now) text) }
 {
     match literal {
         Literal::Plain(text) => Ok(script_text(alloc, connection, text.as_slice())?),
@@ -138,18 +113,18 @@ pub fn conversion(
     ensures is { IfOk result (λ value. value ≡ conversion from to text.now) }
 {
     if from == Charset::Binary && to != Charset::Binary {
-        return match taken_for(alloc, to, text)? {
-            Some(taken) => Ok(limited(taken)),
+        return match reinterpret(alloc, to, text)? {
+            Some(taken) => Ok(within_limit(taken)),
             None => Ok(None),
         };
     }
-    Ok(limited(converted_text(alloc, from, to, text)?))
+    Ok(within_limit(convert(alloc, from, to, text)?))
 }
 
 /// A hexadecimal digit, in upper case.
-fn hex_digit(value: u8) -> u8
+fn upper_digit(value: u8) -> u8
     requires { value < 16 }
-    ensures { result ≡ hex_digit value }
+    ensures { result ≡ upper_digit value }
 {
     if value < 10 {
         b'0' + value
@@ -173,8 +148,8 @@ fn hex_digits(alloc: Global, bytes: &[u8]) -> Result<Text, NoMemory>
 {
     let mut digits = vec![in alloc; 0u8; 2 * bytes.len()]?;
     for (i, byte) in bytes.iter().enumerate() {
-        digits[2 * i] = hex_digit(*byte / 16);
-        digits[2 * i + 1] = hex_digit(*byte % 16);
+        digits[2 * i] = upper_digit(*byte / 16);
+        digits[2 * i + 1] = upper_digit(*byte % 16);
     }
     Text::from_slice(alloc, digits.as_slice())
 }
@@ -185,8 +160,8 @@ pub fn hex_value(alloc: Global, connection: Charset, bytes: &[u8]) -> Result<Opt
     ensures is { IfOk result (λ value. value ≡ hex_value connection bytes.now) }
     ensures well_formed { IfOk result (λ value. IfSome value (IsWellFormed connection)) }
 {
-    match limited(hex_text(alloc, bytes)?) {
-        Some(digits) => Ok(limited(script_text(alloc, connection, digits.as_slice())?)),
+    match within_limit(hex_text(alloc, bytes)?) {
+        Some(digits) => Ok(within_limit(script_text(alloc, connection, digits.as_slice())?)),
         None => Ok(None),
     }
 }

@@ -1,28 +1,42 @@
-ghost use Rattle.std.specs.Prelude.{◌≡◌, None, Some, MatchOption, codes, nat_eq};
+ghost use Rattle.std.specs.Prelude.{◌≡◌, None, Some, MatchOption, codes};
 ghost use Rattle.std.specs.Option.{option_copied};
-ghost use lib.Pointwise.{pointwise};
-ghost use Rattle.mycoll.specs.Words.{Named, named_files};
+ghost use Rattle.std.specs.Str.{bytes_eq};
+ghost use Rattle.mycoll.specs.Words.{named_files};
 
 use mc_base::{List, NoMemory, Text};
 use std::alloc::Global;
-use std::env;
-use std::io::ErrorKind;
+use std::env::FillError;
 use std::rt::Env;
 
-/// The words after the program's name. Words that are not UTF-8 are of no form, so where one is
-/// not, none are given.
-pub fn words_of(alloc: Global, rt: &(impl Env + AllocGlobal)) -> Result<List<Text>, NoMemory> {
+/// The first size of a word's buffer, in bytes, and how often it is doubled.
+const WORD_LEN: usize = 256;
+
+const DOUBLINGS: u32 = 31;
+
+/// The words after the program's name, as their bytes.
+pub fn words_of(alloc: Global, rt: &impl Env) -> Result<List<Text>, NoMemory> {
     let mut words = List::new(alloc);
-    match env::args(rt) {
-        Ok(args) => {
-            for word in args.skip(1) {
-                words.push(Text::from_slice(alloc, word.as_bytes())?)?;
-            }
+    for i in 1..usize::MAX {
+        match read_word(alloc, rt, i)? {
+            Some(word) => words.push(word)?,
+            None => return Ok(words),
         }
-        Err(error) if error.kind() == ErrorKind::OutOfMemory => return Err(NoMemory),
-        Err(_) => {}
     }
     Ok(words)
+}
+
+/// The word at a place of the command line, if there is one.
+fn read_word(alloc: Global, rt: &impl Env, i: usize) -> Result<Option<Text>, NoMemory> {
+    let mut size = WORD_LEN;
+    for _ in 0..DOUBLINGS {
+        let mut buffer = vec![in alloc; 0u8; size]?;
+        match rt.arg(i, buffer.as_mut_slice()) {
+            Ok(len) => return Ok(Some(Text::from_slice(alloc, &buffer.as_slice()[..len])?)),
+            Err(FillError::NotPresent) => return Ok(None),
+            Err(FillError::TooLong) => size = size.saturating_mul(2),
+        }
+    }
+    Err(NoMemory)
 }
 
 /// The files that words of a form name: a catalog, if one is there, and a script.
@@ -34,7 +48,7 @@ pub struct NamedFiles<'a> {
 
 /// Whether the word asks for a workload.
 fn is_make(word: &Text) -> bool
-    ensures { result ≡ pointwise nat_eq word.now (codes "--make") }
+    ensures { result ≡ bytes_eq word.now (codes "--make") }
 {
     word.as_slice() == b"--make".as_slice()
 }

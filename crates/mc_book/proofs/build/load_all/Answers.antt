@@ -6,7 +6,7 @@ use Rattle.std.proofs.lemmas.Result.{err_from_is_err_and}
 use Rattle.mc_book.specs.Any.{any_meaning}
 use Rattle.mc_book.specs.BookOutcome.{declared_outcome, behind_outcome}
 use Rattle.mc_book.specs.Meanings.{meanings}
-use Rattle.mc_book.specs.Told.{HasOutcome}
+use Rattle.mc_base.specs.FileOutcome.{HasOutcome}
 use Rattle.mc_book.proofs.LoadLemmas.{told_both, stopped, one_more, more_sets}
 use Rattle.mc_book.proofs.build.load_all.Goals as goal
 

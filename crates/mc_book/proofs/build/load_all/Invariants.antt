@@ -1,7 +1,7 @@
 -- The declarations so far are loaded: their collations stand behind those that were there.
 use Rattle.std.proofs.Common.{◌≡◌, ◌≤◌, ◌++◌, IfSome, Ok, map, take}
 use Rattle.mc_book.specs.BookOutcome.{behind_outcome, declared_outcome}
-use Rattle.mc_book.specs.Meanings.{meanings, set_of}
+use Rattle.mc_book.specs.Meanings.{meanings, any_set}
 use Rattle.mc_book.proofs.build.load_all.Given as goal
 
 abbrev pub invariant-loop-each : goal.invariant-loop-each
@@ -13,6 +13,6 @@ invariant-loop-each g l =
       later : g.F.Files.faults l.fn.files ≤ g.F.Files.faults l.files;
       told : IfSome (contents l.fn.files)
           (λ told. behind_outcome (meanings l.fn.collations) (map (declared_outcome told) done) ≡ Ok (meanings l.collations));
-      sets : map set_of l.collations ≡ map set_of l.fn.collations ++ map (λ each. each.charset) done;
+      sets : map any_set l.collations ≡ map any_set l.fn.collations ++ map (λ each. each.charset) done;
       unopened : l.each-index ≡ 0 → l.files ≡ l.fn.files;
     }

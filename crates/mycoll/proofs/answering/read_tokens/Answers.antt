@@ -1,5 +1,5 @@
 -- The tokens stand in order within the statement, and their strings are UTF-8.
-use Rattle.mycoll.proofs.LiteralSteps.{of_script}
+use Rattle.mycoll.proofs.Texts.{of_script}
 use Rattle.mycoll.proofs.answering.read_tokens.Goals as goal
 
 pub returns-clause-of_script : goal.returns-clause-of_script

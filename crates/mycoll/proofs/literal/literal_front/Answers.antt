@@ -1,5 +1,5 @@
 -- The text of a string is UTF-8, as its token's is.
-use Rattle.mycoll.proofs.LiteralSteps.{string_utf8, national_utf8}
+use Rattle.mycoll.proofs.Texts.{string_utf8, national_utf8}
 use Rattle.mycoll.proofs.literal.literal_front.Goals as goal
 
 pub returns-in_ok-text-in-Str-clause-utf8 : goal.returns-in_ok-text-in-Str-clause-utf8

@@ -1,11 +1,11 @@
 -- Each turn appends what stands before an escape, and the escape.
 use Rattle.std.proofs.Common.{◌++◌, take, drop, sym, ap, ◌∙◌}
 use Rattle.mycoll.proofs.Escapes.{escaped_end, escaped_more, length_zero, one_turn}
-use Rattle.mycoll.specs.Print.{escaped}
+use Rattle.mycoll.specs.Print.{as_written}
 use Rattle.mycoll.proofs.print.push_escaped.Goals as goal
 
 pub returns-in_default : goal.returns-in_default
-unfolding escaped
+unfolding as_written
 returns-in_default c =
     let plain = c.split_at.ensures.front ∙ ap (λ n. take n c.loop-byte.rest.now) c.plain_len.ensures.len in
     let behind = c.split_at.ensures.back ∙ ap (λ n. drop n c.loop-byte.rest.now) c.plain_len.ensures.len in

@@ -1,4 +1,4 @@
--- Each way to open the files ends in its plan.
+-- Each way to open the files ends in its task.
 use Rattle.mycoll.specs.Opened.{accepted_of}
 use Rattle.mycoll.proofs.RunSteps.{script_run, refusal_run}
 use Rattle.mycoll.proofs.run.run_files.Goals as goal

@@ -1,6 +1,0 @@
-use Rattle.std.proofs.Common.{◌≡◌, take}
-use Rattle.mc_ast.proofs.statement_copies.copy_orders.Given as goal
-
--- The copies are those of the orders walked so far.
-abbrev pub invariant-loop-original : goal.invariant-loop-original
-invariant-loop-original l = l.copies ≡ take l.original-index l.originals
