@@ -1,5 +1,5 @@
 -- Texts that have one block more in common.
-use Rattle.std.proofs.Common.{◌≡◌, ℕ, ◌+◌, ◌-◌, List, ◌++◌, length, take, take_all, drop, length-drop, sym, ◌∙◌, arith}
+use Rattle.std.proofs.Common.{◌≡◌, ℕ, ◌+◌, ◌-◌, List, length, take, take_all, drop, length-drop, sym, ◌∙◌, arith}
 use Rattle.std.proofs.Math.Seq.{take-add}
 
 take_rest : (xs : List ℕ) (n : ℕ) → take (length xs - n) (drop n xs) ≡ drop n xs

@@ -2,7 +2,8 @@ ghost use Rattle.mc_charset.specs.Chars.{chars, code_points, spell, IsWellFormed
 ghost use Rattle.mc_charset.specs.declared.charset.Charset.{Charset as Set};
 ghost use Rattle.mc_order.specs.Meaning.{first_chars};
 ghost use Rattle.mc_order.specs.Order.{list_order};
-ghost use Rattle.std.specs.Prelude.{◌≡◌, ◌++◌, ◌∷◌, ◌<◌, ℕ, List, Some, IfSome, drop, length, map, take};
+ghost use Rattle.std.specs.Prelude.{◌≡◌, ◌++◌, ◌∷◌, ◌<◌, ℕ, List, Some, IfSome, drop, length, map};
+ghost use Rattle.std.specs.Prelude.{take};
 ghost use Rattle.std.specs.Prelude.{OnOk, OnErr};
 
 use crate::shared::shared_start;
@@ -59,7 +60,8 @@ impl<'a, W: CharWeight, E: Encoding> CharWeights<'a, W, E> {
 }
 
 impl<'a, W: CharWeight, E: Encoding> WeightStream for CharWeights<'a, W, E> {
-    ghost left = { λ weights. map (W.weight weights.weigher.now) (chars (W.set weights.weigher.now) weights.text.now) };
+    ghost left = { λ weights. let weigher = weights.weigher.now in
+        map (W.weight weigher) (chars (W.set weigher) weights.text.now) };
 
     #[inline(always)]
     fn next_weight(&mut self) -> Option<u32> {
@@ -80,7 +82,7 @@ impl<'a, W: CharWeight, E: Encoding> WeightStream for CharWeights<'a, W, E> {
 }
 
 /// The first byte of a text in UTF-8, where it is a character by itself.
-// Most are: with a look at the set's table for each of them a comparison takes five times as long.
+// Most are. With a look at the set's table for each of them a comparison took five times as long.
 #[inline(always)]
 #[tactic(auto, using(crate::proofs::Ascii::ascii))]
 fn ascii_front<E: Encoding>(text: &[u8]) -> Option<u8>
@@ -122,7 +124,8 @@ pub fn compare_chars<W: CharWeight>(
 ) -> Ordering
     requires first { IsWellFormed (W.set weigher.now) a.now }
     requires second { IsWellFormed (W.set weigher.now) b.now }
-    ensures { let weights = λ (text : List ℕ). map (W.weight weigher.now) (chars (W.set weigher.now) text) in
+    ensures { let weights = λ (text : List ℕ).
+        map (W.weight weigher.now) (chars (W.set weigher.now) text) in
         result ≡ list_order pad space (weights a.now) (weights b.now) }
 {
     let start = shared_start(weigher.set(), a, b);
@@ -131,7 +134,8 @@ pub fn compare_chars<W: CharWeight>(
 
 /// The order of two texts by the weights of their characters, character by character.
 fn compare_from<W: CharWeight>(weigher: &W, a: &[u8], b: &[u8], pad: Pad, space: u32) -> Ordering
-    ensures { let weights = λ (text : List ℕ). map (W.weight weigher.now) (chars (W.set weigher.now) text) in
+    ensures { let weights = λ (text : List ℕ).
+        map (W.weight weigher.now) (chars (W.set weigher.now) text) in
         result ≡ list_order pad space (weights a.now) (weights b.now) }
 {
     match weigher.set() {
@@ -155,7 +159,8 @@ fn compare_in<W: CharWeight, E: Encoding>(
     space: u32,
 ) -> Ordering
     requires { E.set ≡ W.set weigher.now }
-    ensures { let weights = λ (text : List ℕ). map (W.weight weigher.now) (chars (W.set weigher.now) text) in
+    ensures { let weights = λ (text : List ℕ).
+        map (W.weight weigher.now) (chars (W.set weigher.now) text) in
         result ≡ list_order pad space (weights a.now) (weights b.now) }
 {
     let mut left: CharWeights<W, E> = CharWeights::new(weigher, a);

@@ -1,6 +1,5 @@
 -- The bytes of a text in a set of one-byte spellings are its characters.
-use Rattle.std.proofs.Common.{◌≡◌, ℕ, ◌+◌, ◌-◌, ◌<◌, true, List, [], ◌∷◌, ◌++◌, append-nil, Option, Some, None, map, length, get_or, take, take_all, drop, length-drop, refl, sym, ap, ◌∙◌, ⊎_elim, arith}
-use Rattle.std.proofs.lemmas.Bool.{cases_order}
+use Rattle.std.proofs.Common.{◌≡◌, ℕ, ◌+◌, ◌-◌, ◌<◌, true, List, [], ◌∷◌, ◌++◌, append-nil, Option, Some, None, map, length, get_or, take, take_all, drop, length-drop, refl, sym, ap, ◌∙◌, arith}
 use Rattle.std.specs.Prelude.{option_and_then}
 use Rattle.std.specs.List.{flat_map}
 use Rattle.std.proofs.lemmas.Grind.{flat_map-append}
@@ -9,7 +8,6 @@ use Rattle.std.proofs.lemmas.List.Folds.{flat_map-map}
 use Rattle.mc_charset.specs.declared.charset.Charset.{Charset}
 use Rattle.mc_charset.specs.declared.charset.Charset.TheVariants.{Latin1, Ascii, Utf8mb3, Utf8mb4, Ucs2, Utf16, Utf32, Binary}
 use Rattle.mc_charset.specs.Chars.{spell, spell_all, chars, Spells, IsWellFormed}
-use Rattle.mc_charset.specs.NextChar.{IsFirst}
 use Rattle.mc_order.specs.Meaning.{IsCharOf}
 use Rattle.mc_order.specs.declared.pad.Pad.{Pad}
 use Rattle.mc_order.specs.Bin.{is_one_byte, first_byte}

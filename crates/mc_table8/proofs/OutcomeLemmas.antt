@@ -1,12 +1,12 @@
 -- What the readers say line by line is what the outcome of the text says.
-use Rattle.std.proofs.Common.{◌≡◌, ℕ, zero, suc, ◌<◌, ◌≤◌, ◌≢◌, Bool, true, false, List, [], ◌∷◌, length, take, get_or, Option, Some, None, Result, Ok, Err, MatchResult, is_none, position, option_map, refl, sym, ap, ◌∙◌, arith, nat_lt, cond}
-use Rattle.std.specs.List.{slice_get, range_with_len, position_or_len}
+use Rattle.std.proofs.Common.{◌≡◌, ℕ, ◌<◌, ◌≤◌, ◌≢◌, Bool, true, false, List, length, get_or, Option, Some, None, Result, Ok, Err, MatchResult, is_none, position, option_map, refl, sym, ap, ◌∙◌, arith, nat_lt, cond}
+use Rattle.std.specs.List.{range_with_len, position_or_len}
 use Rattle.std.specs.Option.{option_or}
 use Rattle.std.proofs.lemmas.List.FromFn.{length-range_with_len, get_or-range_with_len, fill_by_all}
 use Rattle.std.proofs.lemmas.Bool.Decides.{nat_tests}
 use Rattle.std.proofs.lemmas.List.Sums.{position_or_len_is}
 use Rattle.mc_base.proofs.FirstFaultLemmas.{first_fault-none, first_fault-some}
-use Rattle.mc_base.specs.FirstFault.{HasNoFault, IsFirstFault, first_fault}
+use Rattle.mc_base.specs.FirstFault.{HasNoFault, IsFirstFault}
 use Rattle.mc_base.specs.Lines.{lines_of}
 use Rattle.mc_table8.specs.General.{CodeTable, code_weight}
 use Rattle.mc_table8.specs.GeneralFile.{IsGeneralOf, IsGeneralFault, weight_by}

@@ -17,7 +17,8 @@ pub(crate) struct ByteWeights<'a> {
 }
 
 impl<'a> WeightStream for ByteWeights<'a> {
-    ghost left = { λ weights. second_weight weights.second ++ bytes_weights weights.table.now.entries weights.text.now };
+    ghost left = { λ weights. second_weight weights.second
+        ++ bytes_weights weights.table.now.entries weights.text.now };
 
     fn next_weight(&mut self) -> Option<u32> {
         match self.second {
