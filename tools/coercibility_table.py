@@ -124,7 +124,8 @@ def operand(charset: str, kind: int, level: int, repertoire: str) -> Operand:
 def of_two_sets(first: str, second: str) -> list[tuple[Operand, Operand]]:
     """Pairs of operands of two sets: levels alike and not, texts of ASCII and of all characters."""
     ascii_first, ascii_second = (operand(each, 1, IMPLICIT, "Ascii") for each in (first, second))
-    full_first, full_second = (operand(each, 1, IMPLICIT, GREATEST[each]) for each in (first, second))
+    full_first = operand(first, 1, IMPLICIT, GREATEST[first])
+    full_second = operand(second, 1, IMPLICIT, GREATEST[second])
     return [
         (ascii_first, ascii_second),
         (full_first, ascii_second),
@@ -150,11 +151,24 @@ def of_one_set(charset: str) -> list[tuple[Operand, Operand]]:
     ]
 
 
-def pairs() -> list[tuple[Operand, Operand]]:
-    """A choice of pairs in which each two sets stand."""
+TABLES = {
+    "BINARY": ["Binary"],
+    "LATIN1": ["Latin1"],
+    "ASCII": ["Ascii"],
+    "UTF8": ["Utf8mb3", "Utf8mb4"],
+    "WIDE": ["Ucs2", "Utf16", "Utf32"],
+}
+"""Tables of pairs of two sets, each with the sets of its first operands."""
+
+
+def pairs_of(name: str) -> list[tuple[Operand, Operand]]:
+    """The pairs of a table; in all tables together each two sets stand."""
     chosen = []
     for first, second in combinations_with_replacement(SETS, 2):
-        chosen += of_one_set(first) if first == second else of_two_sets(first, second)
+        if name == "ONE_SET" and first == second:
+            chosen += of_one_set(first)
+        elif name != "ONE_SET" and first != second and first in TABLES[name]:
+            chosen += of_two_sets(first, second)
     return list(dict.fromkeys(chosen))
 
 
@@ -186,39 +200,47 @@ NAMED = {
 }
 """Operands of the lists, by their names."""
 
-LISTS = [
-    ("NULL NULL NULL", "nothing but NULL"),
-    ("NULL SWEDISH NULL", "one beside NULL"),
-    ("SWEDISH SWEDISH LETTERS", "a column beats a literal of ASCII"),
-    ("SWEDISH LETTERS CYRILLIC", "a character that the column's set lacks"),
-    ("SWEDISH GERMAN NULL", "two columns share their set"),
-    ("SWEDISH GERMAN LATIN1_BIN", "the binary collation beats both"),
-    ("SWEDISH GERMAN LETTERS", "two columns and a literal that fits their set"),
-    ("SWEDISH GERMAN CYRILLIC", "two columns and a literal that doesn't fit"),
-    ("SWEDISH GERMAN EXPLICIT_SWEDISH", "COLLATE beats both"),
-    ("EXPLICIT_SWEDISH EXPLICIT_GERMAN LATIN1_BIN", "COLLATE twice"),
-    ("UTF16_ASCII UTF16 UTF32_ASCII", "of one collation the greater repertoire beats"),
-    ("UTF16 UTF32 UTF8", "three sets of all characters"),
-    ("UTF8_ASCII UTF16_ASCII UTF32_ASCII", "three sets of ASCII"),
-    ("UTF8 UTF16_ASCII UTF32_ASCII", "one of all characters, two of ASCII"),
-    ("UTF16_ASCII UTF16_BIN UTF32_ASCII", "a binary collation above ASCII"),
-    ("UTF16 UTF16_BIN_ASCII UTF32_ASCII", "a binary collation of ASCII"),
-    ("BYTES LETTERS NUMBER", "bytes beside letters"),
-    ("BYTES_BELOW_80 CYRILLIC NUMBER", "the repertoire of bytes"),
-    ("SWEDISH BYTES NULL", "a byte above 7F beside a column"),
-    ("SWEDISH BYTES_BELOW_80 NULL", "bytes below 80 beside a column"),
-    ("LATIN1_MIXED LETTERS NULL", "no collation is compared with a literal"),
-    ("LATIN1_MIXED NULL NULL", "no collation beside NULL"),
-    ("NUMBER NUMBER NUMBER", "numbers"),
-    ("SWEDISH GERMAN UTF8_ASCII NULL", "a Unicode column beats both"),
-    ("SWEDISH GERMAN UTF8 LETTERS", "a Unicode column beats a literal too"),
-    ("UTF8 UTF8_OTHER SWEDISH NUMBER", "two Unicode columns share their set"),
-    ("UTF8 UTF8_OTHER_ASCII UTF16_ASCII LETTERS", "the one above ASCII shares"),
-    ("UTF8_ASCII UTF8_OTHER_ASCII UTF16_ASCII LETTERS", "two Unicode sets of ASCII"),
-    ("SWEDISH GERMAN_CONSTANT LETTERS NUMBER", "four levels"),
-    ("EXPLICIT_BYTES CYRILLIC SWEDISH NULL", "binary takes all"),
-]
-"""Lists of operands, and what each shows."""
+LISTS = {
+    "COLUMNS": [
+        ("SWEDISH SWEDISH LETTERS", "a column beats a literal of ASCII"),
+        ("SWEDISH LETTERS CYRILLIC", "a character that the column's set lacks"),
+        ("SWEDISH GERMAN LATIN1_BIN", "the binary collation beats both"),
+        ("SWEDISH GERMAN LETTERS", "two columns and a literal that fits their set"),
+        ("SWEDISH GERMAN CYRILLIC", "two columns and a literal that doesn't fit"),
+        ("SWEDISH GERMAN EXPLICIT_SWEDISH", "COLLATE beats both"),
+        ("EXPLICIT_SWEDISH EXPLICIT_GERMAN LATIN1_BIN", "COLLATE twice"),
+    ],
+    "UNICODE": [
+        ("UTF16_ASCII UTF16 UTF32_ASCII", "of one collation the greater repertoire beats"),
+        ("UTF16 UTF32 UTF8", "three sets of all characters"),
+        ("UTF8_ASCII UTF16_ASCII UTF32_ASCII", "three sets of ASCII"),
+        ("UTF8 UTF16_ASCII UTF32_ASCII", "one of all characters, two of ASCII"),
+        ("UTF16_ASCII UTF16_BIN UTF32_ASCII", "a binary collation above ASCII"),
+        ("UTF16 UTF16_BIN_ASCII UTF32_ASCII", "a binary collation of ASCII"),
+    ],
+    "BYTES": [
+        ("NULL NULL NULL", "nothing but NULL"),
+        ("NULL SWEDISH NULL", "one beside NULL"),
+        ("SWEDISH GERMAN NULL", "two columns share their set"),
+        ("BYTES LETTERS NUMBER", "bytes beside letters"),
+        ("BYTES_BELOW_80 CYRILLIC NUMBER", "the repertoire of bytes"),
+        ("SWEDISH BYTES NULL", "a byte above 7F beside a column"),
+        ("SWEDISH BYTES_BELOW_80 NULL", "bytes below 80 beside a column"),
+        ("LATIN1_MIXED LETTERS NULL", "no collation is compared with a literal"),
+        ("LATIN1_MIXED NULL NULL", "no collation beside NULL"),
+        ("NUMBER NUMBER NUMBER", "numbers"),
+    ],
+    "FOUR": [
+        ("SWEDISH GERMAN UTF8_ASCII NULL", "a Unicode column beats both"),
+        ("SWEDISH GERMAN UTF8 LETTERS", "a Unicode column beats a literal too"),
+        ("UTF8 UTF8_OTHER SWEDISH NUMBER", "two Unicode columns share their set"),
+        ("UTF8 UTF8_OTHER_ASCII UTF16_ASCII LETTERS", "the one above ASCII shares"),
+        ("UTF8_ASCII UTF8_OTHER_ASCII UTF16_ASCII LETTERS", "two Unicode sets of ASCII"),
+        ("SWEDISH GERMAN_CONSTANT LETTERS NUMBER", "four levels"),
+        ("EXPLICIT_BYTES CYRILLIC SWEDISH NULL", "binary takes all"),
+    ],
+}
+"""Tables of lists of operands, and what each list shows."""
 
 HEADER = "//! Printed by tools/coercibility_table.py, which works the answers out from the rules."
 
@@ -240,37 +262,46 @@ def winner(a: Operand, b: Operand) -> str:
 
 def print_pairs() -> None:
     """Each pair, and which of the two beats the other one."""
-    rows = [f"{a.text()} | {b.text()} | {winner(a, b)}" for a, b in pairs()]
-    print("\n/// Two operands, and which of them beats the other one.")
-    print(f"pub(crate) const PAIRS: [&'static [u8]; {len(rows)}] = [")
-    for row in rows:
-        print(f'    b"{row}",')
-    print("];")
+    for name in ["ONE_SET", *TABLES]:
+        rows = [f"{a.text()} | {b.text()} | {winner(a, b)}" for a, b in pairs_of(name)]
+        sets = " or ".join(each.lower() for each in TABLES.get(name, []))
+        of_sets = f"{sets}, and of a later set" if sets else "one set"
+        print(f"\n/// Operands of {of_sets}: which one beats the other.")
+        print(f"pub(crate) const {name}: [&'static [u8]; {len(rows)}] = [")
+        for row in rows:
+            print(f'    b"{row}",')
+        print("];")
+
+
+def print_list(names: list[str], why: str) -> None:
+    """A list, what its operands have together to be compared and as a text, and what it shows."""
+    operands = [NAMED[name] for name in names]
+    compare, text = aggregate(operands, False), aggregate(operands, True)
+    for other in permutations(operands):
+        assert (aggregate(list(other), False), aggregate(list(other), True)) == (compare, text)
+    texts = ", ".join(f'b"{each.text()}"' for each in operands)
+    print("    Row {")
+    print(f"        operands: &[{texts}],")
+    print(f'        compare: b"{show(compare)}",')
+    print(f'        text: b"{show(text)}",')
+    print(f'        why: "{why}",')
+    print("    },")
 
 
 def print_lists() -> None:
-    """Each list, what its operands have together to be compared and as a text, and what it shows."""
-    print("\n/// Operands, what they have together to be compared and as a text, and what the row shows.")
+    """The type of a row, and the tables."""
+    print("\n/// Operands, what they have to be compared and as a text, and what the row shows.")
     print("pub(crate) struct Row {")
     print("    pub(crate) operands: &'static [&'static [u8]],")
     for field in ["compare", "text"]:
         print(f"    pub(crate) {field}: &'static [u8],")
     print("    pub(crate) why: &'static str,")
     print("}")
-    print(f"\npub(crate) const LISTS: [Row; {len(LISTS)}] = [")
-    for names, why in LISTS:
-        operands = [NAMED[name] for name in names.split()]
-        compare, text = aggregate(operands, False), aggregate(operands, True)
-        for other in permutations(operands):
-            assert (aggregate(list(other), False), aggregate(list(other), True)) == (compare, text)
-        print("    Row {")
-        texts = ", ".join(f'b"{each.text()}"' for each in operands)
-        print(f"        operands: &[{texts}],")
-        print(f'        compare: b"{show(compare)}",')
-        print(f'        text: b"{show(text)}",')
-        print(f'        why: "{why}",')
-        print("    },")
-    print("];")
+    for table, rows in LISTS.items():
+        print(f"\npub(crate) const {table}: [Row; {len(rows)}] = [")
+        for names, why in rows:
+            print_list(names.split(), why)
+        print("];")
 
 
 def main() -> None:

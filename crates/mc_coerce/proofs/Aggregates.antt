@@ -1,8 +1,8 @@
 -- The aggregate: what it comes from.
-use Rattle.std.proofs.Common.{◌≡◌, ◌≢◌, ℕ, ◌<◌, ◌≤◌, ◌⊎◌, Bool, true, false, cond, List, [], ◌∷◌}
+use Rattle.std.proofs.Common.{◌≡◌, ◌≢◌, ℕ, ◌≤◌, ◌⊎◌, Bool, true, cond, List, [], ◌∷◌}
 use Rattle.std.proofs.Common.{Option, Some, None, length, get_or, drop, refl, sym, ap, ◌∙◌, arith}
 use Rattle.std.proofs.Common.{inl, inr}
-use Rattle.std.specs.List.{All, Contains, find, list_any}
+use Rattle.std.specs.List.{All, Contains, list_any}
 use Rattle.std.specs.Option.{option_map, option_or, option_and_then}
 use Rattle.std.proofs.lemmas.Bool.{cases_Bool}
 use Rattle.std.proofs.lemmas.List.{at_drop_all}
@@ -12,8 +12,7 @@ use Rattle.mc_convert.specs.declared.repertoire.Repertoire.TheVariants.{Ascii}
 use Rattle.mc_coerce.specs.declared.operand.Operand.{Operand}
 use Rattle.mc_coerce.specs.declared.operand.Purpose.{Purpose}
 use Rattle.mc_coerce.specs.declared.operand.Purpose.TheVariants.{Compare, Text}
-use Rattle.mc_coerce.specs.declared.operand.Agg.{Agg}
-use Rattle.mc_coerce.specs.declared.operand.Agg.TheVariants.{Uses, Mix}
+use Rattle.mc_coerce.specs.declared.operand.Agg.TheVariants.{Uses}
 use Rattle.mc_coerce.specs.declared.demand.Demand.{Demand}
 use Rattle.mc_coerce.specs.declared.demand.Demand.TheVariants.{Beat, Share}
 use Rattle.mc_coerce.specs.Operand.{ignorable, IsOperand, AgreeOnSet, AreOperands}
@@ -37,8 +36,8 @@ none_left : {Y : Type 0} (F : List Operand → Y) (xs : List Operand) (i : ℕ) 
 none_left F xs i h = at_drop_all (λ (ys : List Operand). F (counted ys)) xs i h
 
 -- What the candidate says at the end of the list.
-pub elected_at_end : (demand : Demand) (list : List Operand) (candidate : Option Operand) (place : ℕ)
-    (a : Operand) → AreOperands list → length list ≤ place
+pub elected_at_end : (demand : Demand) (list : List Operand) (candidate : Option Operand)
+    (place : ℕ) (a : Operand) → AreOperands list → length list ≤ place
     → elect_from demand candidate (counted (drop place list))
     ≡ elect_from demand None (counted list)
     → candidate ≡ Some a → Candidate demand (counted list) a
@@ -104,7 +103,8 @@ decision-from demand operands result h =
             },
           )
       | inr f ↦ absurd (none_is_some result
-          (sym (ap (option_map (outcome demand operands)) (find-none (decides demand operands) operands f)) ∙ h))
+          (sym (ap (option_map (outcome demand operands))
+          (find-none (decides demand operands) operands f)) ∙ h))
     ]
 
 kept : (test : Operand → Bool) (o : Option Operand) (result : Operand)
@@ -125,7 +125,8 @@ either (Some x) p result h = inl h
 agreed-from : (purpose : Purpose) (operands : List Operand) (result : Operand)
     → agreed purpose operands ≡ Some result → HasDecider operands result
 agreed-from Compare operands result h =
-    decision-from Beat operands result (kept (is_refused operands) (decision Beat operands) result h)
+    decision-from Beat operands result
+    (kept (is_refused operands) (decision Beat operands) result h)
 agreed-from Text operands result h =
     elim (either (decision Beat operands) (decision Share operands) result h) [
       | inl k ↦ decision-from Beat operands result k

@@ -1,44 +1,37 @@
 -- What holds of the aggregate whichever operand is found first.
-use Rattle.std.proofs.Common.{◌≡◌, ℕ, ◌<◌, ◌≤◌, ◌⊎◌, Bool, true, false, cond, eqb, leb, ltb, not}
+use Rattle.std.proofs.Common.{◌≡◌, ℕ, ◌<◌, ◌≤◌, Bool, true, false, cond, eqb, leb, ltb, not}
 use Rattle.std.proofs.Common.{◌&&◌, ◌||◌, List, [], ◌∷◌, Option, Some, None, length, get_or, refl}
-use Rattle.std.proofs.Common.{sym, ap, ◌∙◌, subst, arith, inl, inr, zero, suc}
-use Rattle.std.specs.List.{All, Contains, filter, find, list_all, list_any, sum_by}
+use Rattle.std.proofs.Common.{sym, ap, ◌∙◌, arith, inl, inr, zero, suc}
+use Rattle.std.specs.List.{All, Contains, list_all, list_any}
 use Rattle.std.specs.List.Sorted.{IsPermutation}
 use Rattle.std.specs.Option.{option_map, option_or, option_and_then}
 use Rattle.std.proofs.lemmas.Bool.{cases_Bool, leb-true, leb-false, cases_eq}
 use Rattle.std.proofs.lemmas.Bool.Decides.{nat_tests}
-use Rattle.std.proofs.lemmas.List.Elements.{All-contains, All-filter, All-cons, All-tail}
+use Rattle.std.proofs.lemmas.List.Elements.{All-contains, All-filter}
 use Rattle.std.proofs.lemmas.List.Sorted.{All-permutation, list_any-IsPermutation}
 use Rattle.std.proofs.lemmas.List.Sorted.{sum_by-IsPermutation}
 use Rattle.std.proofs.lemmas.List.Sums.{length-filter}
-use Rattle.mc_charset.specs.declared.charset.Charset.{Charset}
-use Rattle.mc_charset.specs.declared.charset.Charset.TheVariants.{Latin1 as SetLatin1}
-use Rattle.mc_charset.specs.declared.charset.Charset.TheVariants.{Ascii as SetAscii, Utf8mb3}
-use Rattle.mc_charset.specs.declared.charset.Charset.TheVariants.{Utf8mb4, Ucs2, Utf16, Utf32}
-use Rattle.mc_charset.specs.declared.charset.Charset.TheVariants.{Binary}
-use Rattle.mc_convert.specs.Classes.{rank, cap_of}
+use Rattle.mc_convert.specs.Classes.{rank}
 use Rattle.mc_convert.specs.declared.repertoire.Repertoire.{Repertoire}
 use Rattle.mc_convert.specs.declared.repertoire.Repertoire.TheVariants.{Ascii, Latin1, Bmp, Unicode}
 use Rattle.mc_convert.specs.declared.repertoire.Repertoire.TheVariants.{Bytes}
 use Rattle.mc_coerce.specs.declared.operand.Operand.{Operand}
 use Rattle.mc_coerce.specs.declared.operand.Purpose.{Purpose}
 use Rattle.mc_coerce.specs.declared.operand.Purpose.TheVariants.{Compare, Text}
-use Rattle.mc_coerce.specs.declared.operand.Agg.{Agg}
-use Rattle.mc_coerce.specs.declared.operand.Agg.TheVariants.{Uses, Mix}
+use Rattle.mc_coerce.specs.declared.operand.Agg.TheVariants.{Uses}
 use Rattle.mc_coerce.specs.declared.demand.Demand.{Demand}
 use Rattle.mc_coerce.specs.declared.demand.Demand.TheVariants.{Beat, Share}
-use Rattle.mc_coerce.specs.Operand.{ignorable, IsOperand, AgreeOnSet, AreOperands}
-use Rattle.mc_coerce.specs.Pair.{beats, same_collation, beats_in_collation}
+use Rattle.mc_coerce.specs.Operand.{IsOperand, AgreeOnSet, AreOperands}
+use Rattle.mc_coerce.specs.Pair.{beats}
 use Rattle.mc_coerce.specs.Demand.{meets, decides}
 use Rattle.mc_coerce.specs.Aggregate.{takes_part, counted, later, greatest, class_in_set, of_bin}
-use Rattle.mc_coerce.specs.Aggregate.{outcome, decision, is_refused, agreed, uses_or_mix, aggregate}
-use Rattle.mc_coerce.proofs.PairTable.{Wins, wins, beaten, each_other, Shares, one_set, same_number}
-use Rattle.mc_coerce.proofs.PairTable.{in_collation, in_set, across_sets}
-use Rattle.mc_coerce.proofs.Members.{member_passes, any_member, Found, find-any, find-none}
+use Rattle.mc_coerce.specs.Aggregate.{outcome, decision, agreed, uses_or_mix, aggregate}
+use Rattle.mc_coerce.proofs.PairTable.{wins, beaten, each_other, same_number}
+use Rattle.mc_coerce.proofs.PairTable.{in_collation}
+use Rattle.mc_coerce.proofs.Members.{Found, find-any, find-none}
 use Rattle.mc_coerce.proofs.Election.{Alike, AlikeBeat, AlikeShare, meet_each_other, meets_member}
-use Rattle.mc_coerce.proofs.Election.{alike, outcome-alike, decider, shares}
+use Rattle.mc_coerce.proofs.Election.{alike, outcome-alike, decider}
 use Rattle.mc_coerce.proofs.Aggregates.{AreOperands-counted, aggregate-none, aggregate-some}
-use Rattle.mc_coerce.proofs.Aggregates.{ComesFrom, aggregate-from}
 
 -- Tests and classes
 
@@ -82,8 +75,10 @@ above_later : (n : ℕ) (a b : Repertoire)
     → ltb n (rank (later a b)) ≡ (ltb n (rank a) || ltb n (rank b))
 above_later n a b =
     elim (cases_Bool (leb (rank a) (rank b))) [
-      | inl t ↦ ap (λ k. ltb n (rank (cond k b a))) t ∙ above_right n (rank a) (rank b) (leb-true _ _ t)
-      | inr f ↦ ap (λ k. ltb n (rank (cond k b a))) f ∙ above_left n (rank a) (rank b) (leb-false _ _ f)
+      | inl t ↦ ap (λ k. ltb n (rank (cond k b a))) t
+          ∙ above_right n (rank a) (rank b) (leb-true _ _ t)
+      | inr f ↦ ap (λ k. ltb n (rank (cond k b a))) f
+          ∙ above_left n (rank a) (rank b) (leb-false _ _ f)
     ]
 
 -- Of a text, what operands have together where this is what they have through a winner.
@@ -173,7 +168,8 @@ any_counted p (x ∷ xs) =
 all_by_any : (p : Operand → Bool) (list : List Operand)
     → list_all p list ≡ not (list_any (λ x. not (p x)) list)
 all_by_any p [] = refl
-all_by_any p (x ∷ xs) = ap (λ b. p x && b) (all_by_any p xs) ∙ de_morgan (p x) (list_any (λ y. not (p y)) xs)
+all_by_any p (x ∷ xs) =
+    ap (λ b. p x && b) (all_by_any p xs) ∙ de_morgan (p x) (list_any (λ y. not (p y)) xs)
 
 -- The operands pass tests alike.
 abbrev SameTests : List Operand → List Operand → Type 0
@@ -209,14 +205,17 @@ same_greatest : (list other : List Operand) → SameTests list other → greates
 same_greatest list other h =
     one_rank (greatest list) (greatest other)
     (same_rank (rank (greatest list)) (rank (greatest other))
-    (λ k. above_greatest k list ∙ h (λ x. ltb k (rank x.repertoire)) ∙ sym (above_greatest k other)))
+    (λ k. above_greatest k list ∙ h (λ x. ltb k (rank x.repertoire))
+    ∙ sym (above_greatest k other)))
 
 same_outcome : (demand : Demand) (list other : List Operand) (a : Operand) → SameTests list other
     → outcome demand list a ≡ outcome demand other a
 same_outcome Beat list other a h =
-    ap (λ (g : Repertoire). record a { repertoire = class_in_set a.charset g }) (same_greatest list other h)
+    ap (λ (g : Repertoire). record a { repertoire = class_in_set a.charset g })
+    (same_greatest list other h)
 same_outcome Share list other a h =
-    ap (λ (g : Repertoire). of_bin a.charset 1 (class_in_set a.charset g)) (same_greatest list other h)
+    ap (λ (g : Repertoire). of_bin a.charset 1 (class_in_set a.charset g))
+    (same_greatest list other h)
 
 -- A member of the one list agrees with the other list's members.
 agrees_over : (list other : List Operand) (a b : Operand) → AreOperands list
@@ -228,7 +227,8 @@ agrees_over list other a b ops h c d =
     let here : All (AgreeOnSet a) other =
     All-contains (λ (x : Operand). All (AgreeOnSet x) other) (counted list) a
     (All-filter takes_part (λ (x : Operand). All (AgreeOnSet x) other) list all) c in
-    All-contains (AgreeOnSet a) (counted other) b (All-filter takes_part (AgreeOnSet a) other here) d
+    All-contains (AgreeOnSet a) (counted other) b
+    (All-filter takes_part (AgreeOnSet a) other here) d
 
 is_operand : (list other : List Operand) (b : Operand) → AreOperands list
     → IsPermutation list other → Contains (counted other) b → IsOperand b
@@ -294,7 +294,8 @@ same_length list other h =
     ∙ sym (sum_by-IsPermutation (λ (x : Operand). cond (takes_part x) 1 0) list other h)
     ∙ sym (length-filter takes_part other)
 
-both_none_or_some : (list other : List Operand) (purpose : Purpose) → length (counted list) ≡ length (counted other)
+both_none_or_some : (list other : List Operand) (purpose : Purpose)
+    → length (counted list) ≡ length (counted other)
     → agreed purpose (counted list) ≡ agreed purpose (counted other)
     → aggregate list purpose ≡ aggregate other purpose
 both_none_or_some list other purpose h k =
@@ -322,4 +323,5 @@ same_agreed Text list other ops h =
 pub any_order : (list other : List Operand) (purpose : Purpose) → AreOperands list
     → IsPermutation list other → aggregate list purpose ≡ aggregate other purpose
 any_order list other purpose ops h =
-    both_none_or_some list other purpose (same_length list other h) (same_agreed purpose list other ops h)
+    both_none_or_some list other purpose (same_length list other h)
+    (same_agreed purpose list other ops h)

@@ -1,13 +1,12 @@
 -- The candidate that is left after each operand was met decides, if any operand does.
-use Rattle.std.proofs.Common.{◌≡◌, ℕ, ◌+◌, ◌<◌, ◌≤◌, ◌⊎◌, Bool, true, false, cond, ◌&&◌, ◌||◌, not}
-use Rattle.std.proofs.Common.{ltb, eqb, List, [], ◌∷◌, Option, Some, None, get_or, length, refl}
-use Rattle.std.proofs.Common.{sym, ap, ◌∙◌, subst, arith, inl, inr, zero, suc}
-use Rattle.std.specs.List.{All, Contains, find, list_all, list_any}
+use Rattle.std.proofs.Common.{◌≡◌, ℕ, ◌<◌, ◌≤◌, ◌⊎◌, Bool, true, false, cond, ◌&&◌, ◌||◌, not}
+use Rattle.std.proofs.Common.{ltb, eqb, List, [], ◌∷◌, Option, Some, None, get_or, refl}
+use Rattle.std.proofs.Common.{sym, ap, ◌∙◌, subst, arith, inl, inr, zero}
+use Rattle.std.specs.List.{All, Contains, list_any}
 use Rattle.std.specs.Option.{option_map}
 use Rattle.std.proofs.lemmas.Bool.{cases_Bool, false≢true, both_ways, or_cases, or_left, or_right}
 use Rattle.std.proofs.lemmas.Bool.{and_from, and_parts, eqb-true, eq-eqb, ltb-true, ltb-false}
-use Rattle.std.proofs.lemmas.Bool.{lt-ltb, cases_eq}
-use Rattle.std.proofs.lemmas.Bool.Decides.{nat_tests}
+use Rattle.std.proofs.lemmas.Bool.{lt-ltb}
 use Rattle.std.proofs.lemmas.List.Elements.{All-contains, All-contains_itself, All-tail}
 use Rattle.std.proofs.lemmas.List.Sums.{AllPass-from_list_all, list_all-from_AllPass}
 use Rattle.mc_charset.specs.declared.charset.Charset.{Charset}
@@ -24,7 +23,7 @@ use Rattle.mc_coerce.specs.Demand.{same_set_and_level, meets, decides, has_less,
 use Rattle.mc_coerce.specs.Aggregate.{greatest, class_in_set, of_bin, no_collation, outcome}
 use Rattle.mc_coerce.specs.Aggregate.{decision}
 use Rattle.mc_coerce.proofs.SetTests.{same_set-true, same_set-from}
-use Rattle.mc_coerce.proofs.PairTable.{Wins, wins, beaten, each_other, keeps_wins, Shares}
+use Rattle.mc_coerce.proofs.PairTable.{wins, beaten, each_other, keeps_wins, Shares}
 use Rattle.mc_coerce.proofs.PairTable.{share_each_other, keeps_shares, one_set}
 use Rattle.mc_coerce.proofs.Members.{member_passes, any_member, Found, find-any, find-none}
 
@@ -76,7 +75,8 @@ shared a b h =
           (same_set-from _ _ k.0) (eq-eqb _ _ k.1))
     ])
 
-same_bin : (p q : Bool) (m n : ℕ) → (p ≡ true → m < built_in_count) × (m < built_in_count → p ≡ true)
+same_bin : (p q : Bool) (m n : ℕ)
+    → (p ≡ true → m < built_in_count) × (m < built_in_count → p ≡ true)
     → (q ≡ true → n < built_in_count) × (n < built_in_count → q ≡ true) → m ≡ n → p ≡ q
 same_bin true true m n f g e = refl
 same_bin false false m n f g e = refl
@@ -280,7 +280,8 @@ elected demand (x ∷ xs) a ops e =
     let first : Contains list x = all zero x (omega arith) in
     let rest : All (Contains list) xs = All-tail (Contains list) x xs all in
     let is : elect demand x xs ≡ a = cc in
-    let within : Contains list a = subst (Contains list) is (elect-within demand list x xs first rest) in
+    let within : Contains list a =
+    subst (Contains list) is (elect-within demand list x xs first rest) in
     record {
       decided = decider demand list a ops within;
       undecided = λ h. elim (cases_Bool (list_any (decides demand list) list)) [

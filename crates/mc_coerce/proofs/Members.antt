@@ -1,8 +1,8 @@
 -- Tests of a list and its members.
-use Rattle.std.proofs.Common.{◌≡◌, ℕ, ◌<◌, ◌⊎◌, Bool, true, false, cond, ◌&&◌, ◌||◌, not, List, []}
-use Rattle.std.proofs.Common.{◌∷◌, Option, Some, None, get_or, length, refl, sym, ap, ◌∙◌, arith}
+use Rattle.std.proofs.Common.{◌≡◌, Bool, true, false, cond, ◌||◌, List, []}
+use Rattle.std.proofs.Common.{◌∷◌, Some, None, refl, sym, ap, ◌∙◌, arith}
 use Rattle.std.proofs.Common.{inl, inr, zero, suc}
-use Rattle.std.specs.List.{All, Contains, filter, find, list_all, list_any}
+use Rattle.std.specs.List.{Contains, find, list_all, list_any}
 use Rattle.std.proofs.lemmas.Bool.{cases_Bool, false≢true, or_parts}
 use Rattle.std.proofs.lemmas.List.Elements.{All-contains}
 use Rattle.std.proofs.lemmas.List.Folds.{list_any_at}
@@ -10,13 +10,15 @@ use Rattle.std.proofs.lemmas.List.Sums.{AllPass-from_list_all}
 
 pub member_passes : {X : Type 0} (p : X → Bool) (xs : List X) (x : X) → list_all p xs ≡ true
     → Contains xs x → p x ≡ true
-member_passes {X} p xs x h c = All-contains (λ (y : X). p y ≡ true) xs x (AllPass-from_list_all p xs h) c
+member_passes {X} p xs x h c =
+    All-contains (λ (y : X). p y ≡ true) xs x (AllPass-from_list_all p xs h) c
 
 pub any_member : {X : Type 0} (p : X → Bool) (xs : List X) (x : X) → Contains xs x → p x ≡ true
     → list_any p xs ≡ true
 any_member p xs x c h = list_any_at p xs c.0 x c.1 (ap p c.2 ∙ h)
 
-pub Contains-later : {X : Type 0} (y : X) (xs : List X) (x : X) → Contains xs x → Contains (y ∷ xs) x
+pub Contains-later : {X : Type 0} (y : X) (xs : List X) (x : X) → Contains xs x
+    → Contains (y ∷ xs) x
 Contains-later y xs x c = let l = c.1 in (suc c.0, omega arith, c.2)
 
 pub Contains-first : {X : Type 0} (xs : List X) (x : X) → Contains (x ∷ xs) x
@@ -42,7 +44,8 @@ find-any {X} p (x ∷ xs) h =
         },
       )
       | inr f ↦
-          let r : (y : X) × Found p xs y = find-any p xs (ap (λ b. b || list_any p xs) (sym f) ∙ h) in (
+          let r : (y : X) × Found p xs y =
+          find-any p xs (ap (λ b. b || list_any p xs) (sym f) ∙ h) in (
             r.0,
             record {
               found = ap (λ b. cond b (Some x) (find p xs)) f ∙ r.1.found;

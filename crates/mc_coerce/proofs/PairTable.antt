@@ -1,6 +1,6 @@
 -- The pair table: what beats what, and that none beats each other.
 use Rattle.std.proofs.Common.{◌≡◌, ◌≢◌, ℕ, ◌<◌, ◌≤◌, ◌⊎◌, Bool, true, false, not, ◌&&◌, ◌||◌, cond}
-use Rattle.std.proofs.Common.{eqb, leb, ltb, refl, sym, ap, ◌∙◌, subst, arith, inl, inr}
+use Rattle.std.proofs.Common.{eqb, refl, sym, ap, ◌∙◌, subst, arith, inl, inr}
 use Rattle.std.proofs.lemmas.Bool.{and_parts, eqb-true, eqb-false, eq-eqb, ne_eqb, leb-true, le-leb}
 use Rattle.std.proofs.lemmas.Bool.{both_ways, cases_eq, cases_lt, false≢true}
 use Rattle.std.proofs.lemmas.Bool.Decides.{nat_tests}
@@ -11,7 +11,7 @@ use Rattle.mc_convert.specs.Classes.{rank, cap_of}
 use Rattle.mc_convert.specs.Conversion.{is_binary}
 use Rattle.mc_coerce.specs.declared.operand.Operand.{Operand}
 use Rattle.mc_coerce.specs.Operand.{AgreeOnSet}
-use Rattle.mc_coerce.specs.Sets.{bin_number_of, extends, is_unicode_beside_other}
+use Rattle.mc_coerce.specs.Sets.{bin_collation_of, extends, is_unicode_beside_other}
 use Rattle.mc_coerce.specs.Sets.{are_unicode_apart}
 use Rattle.mc_coerce.specs.Pair.{beats, has_precedence, is_ascii, is_lower_or, same_collation}
 use Rattle.mc_coerce.specs.Pair.{are_explicit, beats_in_collation, beats_in_set, beats_across_sets}
@@ -28,21 +28,27 @@ precedence set other ascii other_ascii =
 -- Whether two sets that differ have precedence over each other.
 abbrev over_each_other : Charset → Charset → Bool → Bool → Bool
 over_each_other set other a b =
-    not (eqb (bin_number_of set) (bin_number_of other)) && (precedence set other a b && precedence other set b a)
+    not (eqb (bin_collation_of set) (bin_collation_of other))
+    && (precedence set other a b && precedence other set b a)
 
-none_over_each_other : (a b : Bool) (set other : Charset) → not (over_each_other set other a b) ≡ true
+none_over_each_other : (a b : Bool) (set other : Charset)
+    → not (over_each_other set other a b) ≡ true
 none_over_each_other true true set other =
     each_set (λ (t : Charset). not (over_each_other set t true true))
-    (each_set (λ (s : Charset). all_sets (λ (t : Charset). not (over_each_other s t true true))) refl set) other
+    (each_set (λ (s : Charset). all_sets (λ (t : Charset). not (over_each_other s t true true)))
+    refl set) other
 none_over_each_other true false set other =
     each_set (λ (t : Charset). not (over_each_other set t true false))
-    (each_set (λ (s : Charset). all_sets (λ (t : Charset). not (over_each_other s t true false))) refl set) other
+    (each_set (λ (s : Charset). all_sets (λ (t : Charset). not (over_each_other s t true false)))
+    refl set) other
 none_over_each_other false true set other =
     each_set (λ (t : Charset). not (over_each_other set t false true))
-    (each_set (λ (s : Charset). all_sets (λ (t : Charset). not (over_each_other s t false true))) refl set) other
+    (each_set (λ (s : Charset). all_sets (λ (t : Charset). not (over_each_other s t false true)))
+    refl set) other
 none_over_each_other false false set other =
     each_set (λ (t : Charset). not (over_each_other set t false false))
-    (each_set (λ (s : Charset). all_sets (λ (t : Charset). not (over_each_other s t false false))) refl set) other
+    (each_set (λ (s : Charset). all_sets (λ (t : Charset). not (over_each_other s t false false)))
+    refl set) other
 
 refuted : (s p q : Bool) → not (not s && (p && q)) ≡ true → s ≡ false → p ≡ true → q ≡ true → ⊥
 refuted true p q h k l m = cc
@@ -51,14 +57,16 @@ refuted false true false h k l m = cc
 refuted false false q h k l m = cc
 
 numbers_differ : (set other : Charset) → set ≢ other
-    → eqb (bin_number_of set) (bin_number_of other) ≡ false
+    → eqb (bin_collation_of set) (bin_collation_of other) ≡ false
 numbers_differ set other h = ne_eqb _ _ (λ e. h (one_number set other e))
 
 one_precedes : (a b : Operand) → a.charset ≢ b.charset → has_precedence a b ≡ true
     → has_precedence b a ≡ true → ⊥
 one_precedes a b h k l =
-    refuted (eqb (bin_number_of a.charset) (bin_number_of b.charset)) (has_precedence a b) (has_precedence b a)
-    (none_over_each_other (is_ascii a) (is_ascii b) a.charset b.charset) (numbers_differ a.charset b.charset h) k l
+    refuted (eqb (bin_collation_of a.charset) (bin_collation_of b.charset)) (has_precedence a b)
+    (has_precedence b a)
+    (none_over_each_other (is_ascii a) (is_ascii b) a.charset b.charset)
+    (numbers_differ a.charset b.charset h) k l
 
 -- Its level is lower, or the levels are equal, not explicit, and it is preferred.
 abbrev pub IsLower : Operand → Operand → Bool → Type 0
@@ -82,7 +90,8 @@ test-lower : (a b : Operand) (p : Bool) → IsLower a b p
     → (are_explicit a b ≡ false) × (is_lower_or a b p ≡ true)
 test-lower a b true (inl h) = (grind (arith, nat_tests), grind (arith, nat_tests))
 test-lower a b false (inl h) = (grind (arith, nat_tests), grind (arith, nat_tests))
-test-lower a b true (inr h) = let e = h.0 in let k = h.1 in (grind (arith, nat_tests), grind (arith, nat_tests))
+test-lower a b true (inr h) =
+    let e = h.0 in let k = h.1 in (grind (arith, nat_tests), grind (arith, nat_tests))
 test-lower a b false (inr h) = absurd (cc)
 
 -- A choice by three tests.
@@ -136,7 +145,8 @@ beaten a b (across_sets h k l m) =
     let p = test-lower a b _ m in
     back (same_collation a b) (are_explicit a b) (same_set a.charset b.charset)
     (beats_in_collation a b) (beats_in_set a b) (beats_across_sets a b)
-    (fourth (ne_eqb _ _ h) p.0 (same_set-false _ _ k) (ap (λ t. t && is_lower_or a b (has_precedence a b)) (le-leb _ _ l) ∙ p.1))
+    (fourth (ne_eqb _ _ h) p.0 (same_set-false _ _ k)
+    (ap (λ t. t && is_lower_or a b (has_precedence a b)) (le-leb _ _ l) ∙ p.1))
 
 -- Two operands that beat each other
 

@@ -1,6 +1,6 @@
 -- The repertoire of a result, and that no operand loses a character to it.
-use Rattle.std.proofs.Common.{◌≡◌, ℕ, ◌<◌, ◌≤◌, ◌⊎◌, Bool, true, false, cond, leb, List, [], ◌∷◌}
-use Rattle.std.proofs.Common.{length, refl, sym, ap, ◌∙◌, subst, arith, inl, inr, zero, suc}
+use Rattle.std.proofs.Common.{◌≡◌, ◌<◌, ◌≤◌, ◌⊎◌, Bool, true, cond, leb, List, [], ◌∷◌}
+use Rattle.std.proofs.Common.{length, refl, sym, ap, ◌∙◌, subst, arith, inl, inr, zero}
 use Rattle.std.specs.List.{All, Contains}
 use Rattle.std.proofs.lemmas.Bool.{cases_Bool, leb-true, leb-false}
 use Rattle.std.proofs.lemmas.List.Elements.{All-contains, All-nil, All-cons, All-tail}
@@ -19,14 +19,13 @@ use Rattle.mc_coerce.specs.declared.operand.Agg.TheVariants.{Uses}
 use Rattle.mc_coerce.specs.declared.demand.Demand.{Demand}
 use Rattle.mc_coerce.specs.declared.demand.Demand.TheVariants.{Beat, Share}
 use Rattle.mc_coerce.specs.Operand.{ignorable, AgreeOnSet, AreOperands}
-use Rattle.mc_coerce.specs.Demand.{meets, decides}
+use Rattle.mc_coerce.specs.Demand.{meets}
 use Rattle.mc_coerce.specs.Aggregate.{counted, later, greatest, class_in_set, of_bin, outcome}
 use Rattle.mc_coerce.specs.Aggregate.{aggregate}
-use Rattle.mc_coerce.proofs.PairTable.{Wins, wins, Shares, one_set, in_collation, in_set}
+use Rattle.mc_coerce.proofs.PairTable.{Wins, wins, one_set, in_collation, in_set}
 use Rattle.mc_coerce.proofs.PairTable.{across_sets}
-use Rattle.mc_coerce.proofs.Members.{member_passes}
 use Rattle.mc_coerce.proofs.Election.{shares, agrees, meets_member}
-use Rattle.mc_coerce.proofs.Aggregates.{AreOperands-counted, ComesFrom, aggregate-from}
+use Rattle.mc_coerce.proofs.Aggregates.{AreOperands-counted, aggregate-from}
 
 -- Classes of a set
 
@@ -214,7 +213,8 @@ aggregate-keeps list purpose together a ops h c =
       | inr k ↦
           let agree : AgreeOnSet k.1 a = All-contains (AgreeOnSet k.1) (counted list) a
           (agrees (counted list) k.1 (AreOperands-counted list ops) k.2.within) c in
-          subst (Keeps a) (outcome-charset k.0 (counted list) k.1 ∙ ap (λ (r : Operand). r.charset) (sym k.2.is))
+          subst (Keeps a)
+          (outcome-charset k.0 (counted list) k.1 ∙ ap (λ (r : Operand). r.charset) (sym k.2.is))
           (meets_keeps k.0 k.1 a agree
           (meets_member k.0 (counted list) k.1 a c k.2.decides_all))
     ]

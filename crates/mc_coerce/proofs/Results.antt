@@ -1,6 +1,6 @@
 -- A result is an operand again, of a collation that an operand has or of its set's binary one.
-use Rattle.std.proofs.Common.{◌≡◌, ℕ, ◌<◌, ◌≤◌, ◌⊎◌, Bool, true, ltb, List, [], refl, sym, ap, ◌∙◌, subst, arith, inl, inr}
-use Rattle.std.specs.List.{All, Any, Contains}
+use Rattle.std.proofs.Common.{◌≡◌, ◌<◌, ◌⊎◌, ltb, List, refl, sym, subst, arith, inl, inr}
+use Rattle.std.specs.List.{Any, Contains}
 use Rattle.std.proofs.lemmas.Bool.{ltb-true}
 use Rattle.std.proofs.lemmas.List.Elements.{All-contains}
 use Rattle.mc_charset.specs.declared.charset.Charset.{Charset}
@@ -12,15 +12,15 @@ use Rattle.mc_coerce.specs.declared.operand.Agg.TheVariants.{Uses}
 use Rattle.mc_coerce.specs.declared.demand.Demand.{Demand}
 use Rattle.mc_coerce.specs.declared.demand.Demand.TheVariants.{Beat, Share}
 use Rattle.mc_coerce.specs.Operand.{ignorable, built_in_count, IsOperand, AreOperands}
-use Rattle.mc_coerce.specs.Sets.{bin_number_of}
+use Rattle.mc_coerce.specs.Sets.{bin_collation_of}
 use Rattle.mc_coerce.specs.Aggregate.{counted, of_bin, outcome, aggregate}
 use Rattle.mc_coerce.proofs.SetTests.{each_set}
 use Rattle.mc_coerce.proofs.Aggregates.{AreOperands-counted, aggregate-from}
 
-is_built_in : (set : Charset) → bin_number_of set < built_in_count
+is_built_in : (set : Charset) → bin_collation_of set < built_in_count
 is_built_in set =
-    ltb-true (bin_number_of set) built_in_count
-    (each_set (λ (s : Charset). ltb (bin_number_of s) built_in_count) refl set)
+    ltb-true (bin_collation_of set) built_in_count
+    (each_set (λ (s : Charset). ltb (bin_collation_of s) built_in_count) refl set)
 
 outcome-operand : (demand : Demand) (operands : List Operand) (a : Operand) → IsOperand a
     → IsOperand (outcome demand operands a)
@@ -40,14 +40,15 @@ result_operand list purpose together ops h =
       | inl k ↦ subst IsOperand (sym k.1) none-operand
       | inr k ↦ subst IsOperand (sym k.2.is)
           (outcome-operand k.0 (counted list) k.1
-          (All-contains IsOperand (counted list) k.1 (AreOperands-counted list ops).each k.2.within))
+          (All-contains IsOperand (counted list) k.1
+          (AreOperands-counted list ops).each k.2.within))
     ]
 
 -- The set and the collation of an operand, or the set's binary collation.
 abbrev Known : List Operand → Operand → Type 0
 Known operands r =
     Any (λ (a : Operand). (a.charset ≡ r.charset) × (a.collation ≡ r.collation)) operands
-    ⊎ (r.collation.0 ≡ bin_number_of r.charset)
+    ⊎ (r.collation.0 ≡ bin_collation_of r.charset)
 
 outcome-known : (demand : Demand) (operands : List Operand) (a : Operand) → Contains operands a
     → Known operands (outcome demand operands a)
@@ -56,8 +57,9 @@ outcome-known Share operands a c = inr refl
 
 pub result_known : (list : List Operand) (purpose : Purpose) (together : Operand)
     → aggregate list purpose ≡ Uses together
-    → Any (λ (a : Operand). (a.charset ≡ together.charset) × (a.collation ≡ together.collation)) (counted list)
-    ⊎ (together.collation.0 ≡ bin_number_of together.charset)
+    → Any (λ (a : Operand). (a.charset ≡ together.charset) × (a.collation ≡ together.collation))
+    (counted list)
+    ⊎ (together.collation.0 ≡ bin_collation_of together.charset)
 result_known list purpose together h =
     elim (aggregate-from list purpose together h) [
       | inl k ↦ subst (Known (counted list)) (sym k.1) (inr refl)

@@ -1,8 +1,8 @@
 -- Character sets and classes, all of them gone through.
-use Rattle.std.proofs.Common.{◌≡◌, ◌≢◌, ℕ, ◌<◌, Bool, true, false, not, ◌&&◌, ◌||◌, eqb, ltb, List}
+use Rattle.std.proofs.Common.{◌≡◌, ◌≢◌, ℕ, ◌<◌, Bool, true, false, not, ◌||◌, eqb, List}
 use Rattle.std.proofs.Common.{[]}
-use Rattle.std.proofs.Common.{◌∷◌, Option, Some, None, refl, sym, ap, ◌∙◌, subst, arith, zero, suc}
-use Rattle.std.proofs.Common.{◌+◌, ◌*◌, ◌⊎◌, inl, inr, get_or, length, lit<}
+use Rattle.std.proofs.Common.{◌∷◌, Some, refl, sym, ap, ◌∙◌, arith, zero, suc}
+use Rattle.std.proofs.Common.{◌+◌, ◌*◌, inl, inr, get_or, length, lit<}
 use Rattle.std.specs.List.{slice_get, list_all}
 use Rattle.std.proofs.lemmas.Bool.{false≢true, cases_Bool, eqb-true}
 use Rattle.std.proofs.lemmas.Bool.Decides.{nat_tests}
@@ -11,7 +11,7 @@ use Rattle.mc_charset.specs.Names.{same_set, built_in_names, bin_name}
 use Rattle.mc_charset.specs.declared.charset.Charset.{Charset}
 use Rattle.mc_charset.specs.declared.charset.Charset.TheVariants.{Latin1, Ascii, Utf8mb3, Utf8mb4}
 use Rattle.mc_charset.specs.declared.charset.Charset.TheVariants.{Ucs2, Utf16, Utf32, Binary}
-use Rattle.mc_coerce.specs.Sets.{bin_number_of}
+use Rattle.mc_coerce.specs.Sets.{bin_collation_of}
 
 -- Equal sets
 
@@ -25,7 +25,7 @@ set_numbered (suc (suc (suc (suc (suc zero))))) = Ucs2
 set_numbered (suc (suc (suc (suc (suc (suc zero)))))) = Utf16
 set_numbered (suc (suc (suc (suc (suc (suc (suc n))))))) = Utf32
 
-numbered_back : (set : Charset) → set_numbered (bin_number_of set) ≡ set
+numbered_back : (set : Charset) → set_numbered (bin_collation_of set) ≡ set
 unfolding set_numbered
 numbered_back Latin1 = refl
 numbered_back Ascii = refl
@@ -37,7 +37,7 @@ numbered_back Utf32 = refl
 numbered_back Binary = refl
 
 -- The number of its binary collation tells a set.
-pub one_number : (set other : Charset) → bin_number_of set ≡ bin_number_of other → set ≡ other
+pub one_number : (set other : Charset) → bin_collation_of set ≡ bin_collation_of other → set ≡ other
 one_number set other h =
     sym (numbered_back set) ∙ ap set_numbered h ∙ numbered_back other
 
@@ -68,15 +68,16 @@ each_set p h Utf16 = at_place p 5 Utf16 h (lit< tt) refl
 each_set p h Utf32 = at_place p 6 Utf32 h (lit< tt) refl
 each_set p h Binary = at_place p 7 Binary h (lit< tt) refl
 
--- The two tests on sets agree.
+-- If the sets are one, so are the numbers.
+abbrev agree : Charset → Charset → Bool
+agree set other =
+    not (same_set set other) || eqb (bin_collation_of set) (bin_collation_of other)
 
-by_number : (set other : Charset)
-    → (not (same_set set other) || eqb (bin_number_of set) (bin_number_of other)) ≡ true
+by_number : (set other : Charset) → agree set other ≡ true
 unfolding same_set
 by_number set other =
-    each_set (λ (t : Charset). not (same_set set t) || eqb (bin_number_of set) (bin_number_of t))
-    (each_set (λ (s : Charset). all_sets (λ (t : Charset).
-    not (same_set s t) || eqb (bin_number_of s) (bin_number_of t))) refl set) other
+    each_set (λ (t : Charset). agree set t)
+    (each_set (λ (s : Charset). all_sets (λ (t : Charset). agree s t)) refl set) other
 
 same_itself : (set : Charset) → same_set set set ≡ true
 unfolding same_set
@@ -112,7 +113,7 @@ name_at n = get_or built_in_names n []
 -- Of the nine names one is that of the set.
 is_named_once : Charset → ℕ → Bool
 is_named_once set n =
-    not (eqb (checksum (name_at n)) (checksum (bin_name set))) || eqb n (bin_number_of set)
+    not (eqb (checksum (name_at n)) (checksum (bin_name set))) || eqb n (bin_collation_of set)
 
 named_once : (n : ℕ) → n < 9 → (set : Charset) → is_named_once set n ≡ true
 unfolding is_named_once name_at checksum
@@ -143,10 +144,10 @@ test_of m n true e h = refl
 test_of m n false e h = grind (arith, nat_tests)
 
 pub bin_number : (set : Charset) (n : ℕ) → slice_get built_in_names n ≡ Some (bin_name set)
-    → n ≡ bin_number_of set
+    → n ≡ bin_collation_of set
 unfolding is_named_once name_at
 bin_number set n h =
     let w = within n (bin_name set) built_in_names h in
-    eqb-true n (bin_number_of set)
-    (test_of (checksum (name_at n)) (checksum (bin_name set)) (eqb n (bin_number_of set))
+    eqb-true n (bin_collation_of set)
+    (test_of (checksum (name_at n)) (checksum (bin_name set)) (eqb n (bin_collation_of set))
     (ap checksum w.1) (named_once n w.0 set))

@@ -16,7 +16,7 @@ use Rattle.mc_coerce.specs.declared.operand.Agg.TheVariants.{Uses, Mix}
 use Rattle.mc_coerce.specs.declared.demand.Demand.{Demand}
 use Rattle.mc_coerce.specs.declared.demand.Demand.TheVariants.{Beat, Share}
 use Rattle.mc_coerce.specs.Operand.{ignorable}
-use Rattle.mc_coerce.specs.Sets.{bin_number_of}
+use Rattle.mc_coerce.specs.Sets.{bin_collation_of}
 use Rattle.mc_coerce.specs.Demand.{decides}
 
 -- The operand isn't ignorable.
@@ -46,7 +46,7 @@ class_in_set set class = class
 abbrev pub of_bin : Charset → ℕ → Repertoire → Operand
 of_bin set level class = record {
   charset = set;
-  collation = record { 0 = bin_number_of set };
+  collation = record { 0 = bin_collation_of set };
   bin = true;
   level = level;
   repertoire = class;

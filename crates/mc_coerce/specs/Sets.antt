@@ -7,15 +7,15 @@ use Rattle.mc_charset.specs.declared.charset.Charset.TheVariants.{Ucs2, Utf16, U
 use Rattle.mc_convert.specs.Conversion.{is_binary}
 
 -- The number of a set's binary collation.
-abbrev pub bin_number_of : Charset → ℕ
-bin_number_of Binary = 0
-bin_number_of Latin1 = 1
-bin_number_of Ascii = 2
-bin_number_of Utf8mb3 = 3
-bin_number_of Utf8mb4 = 4
-bin_number_of Ucs2 = 5
-bin_number_of Utf16 = 6
-bin_number_of Utf32 = 7
+abbrev pub bin_collation_of : Charset → ℕ
+bin_collation_of Binary = 0
+bin_collation_of Latin1 = 1
+bin_collation_of Ascii = 2
+bin_collation_of Utf8mb3 = 3
+bin_collation_of Utf8mb4 = 4
+bin_collation_of Ucs2 = 5
+bin_collation_of Utf16 = 6
+bin_collation_of Utf32 = 7
 
 -- The set holds the other one's characters and more.
 abbrev pub extends : Charset → Charset → Bool

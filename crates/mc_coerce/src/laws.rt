@@ -2,7 +2,7 @@ ghost use Rattle.mc_coerce.specs.Aggregate.{aggregate, class_in_set, counted, ou
 ghost use Rattle.mc_coerce.specs.Demand.{decides};
 ghost use Rattle.mc_coerce.specs.Operand.{AreOperands, IsOperand};
 ghost use Rattle.mc_coerce.specs.Pair.{beats};
-ghost use Rattle.mc_coerce.specs.Sets.{bin_number_of};
+ghost use Rattle.mc_coerce.specs.Sets.{bin_collation_of};
 ghost use Rattle.mc_coerce.specs.declared.demand.Demand.TheVariants.{Beat, Share};
 ghost use Rattle.mc_coerce.specs.declared.operand.Agg.TheVariants.{Uses};
 ghost use Rattle.mc_coerce.specs.declared.operand.Operand.{Operand};
@@ -72,5 +72,5 @@ pub fn result_law()
         → aggregate list purpose ≡ Uses together
         → Any (λ a. (a.charset ≡ together.charset) × (a.collation ≡ together.collation))
         (counted list)
-        ⊎ (together.collation.0 ≡ bin_number_of together.charset) }
+        ⊎ (together.collation.0 ≡ bin_collation_of together.charset) }
 {}

@@ -1,6 +1,6 @@
 //! Printed by tools/coercibility_table.py, which works the answers out from the rules.
 
-/// Operands, what they have together to be compared and as a text, and what the row shows.
+/// Operands, what they have to be compared and as a text, and what the row shows.
 pub(crate) struct Row {
     pub(crate) operands: &'static [&'static [u8]],
     pub(crate) compare: &'static [u8],
@@ -8,27 +8,7 @@ pub(crate) struct Row {
     pub(crate) why: &'static str,
 }
 
-pub(crate) const LISTS: [Row; 30] = [
-    Row {
-        operands: &[
-            b"binary bin 6 ascii",
-            b"binary bin 6 ascii",
-            b"binary bin 6 ascii",
-        ],
-        compare: b"binary bin 6 ascii",
-        text: b"binary bin 6 ascii",
-        why: "nothing but NULL",
-    },
-    Row {
-        operands: &[
-            b"binary bin 6 ascii",
-            b"latin1 ci 2 latin1",
-            b"binary bin 6 ascii",
-        ],
-        compare: b"latin1 ci 2 latin1",
-        text: b"latin1 ci 2 latin1",
-        why: "one beside NULL",
-    },
+pub(crate) const COLUMNS: [Row; 7] = [
     Row {
         operands: &[
             b"latin1 ci 2 latin1",
@@ -48,16 +28,6 @@ pub(crate) const LISTS: [Row; 30] = [
         compare: b"mix",
         text: b"mix",
         why: "a character that the column's set lacks",
-    },
-    Row {
-        operands: &[
-            b"latin1 ci 2 latin1",
-            b"latin1 cs 2 latin1",
-            b"binary bin 6 ascii",
-        ],
-        compare: b"mix",
-        text: b"latin1 bin 1 latin1",
-        why: "two columns share their set",
     },
     Row {
         operands: &[
@@ -109,6 +79,9 @@ pub(crate) const LISTS: [Row; 30] = [
         text: b"mix",
         why: "COLLATE twice",
     },
+];
+
+pub(crate) const UNICODE: [Row; 6] = [
     Row {
         operands: &[
             b"utf16 ci 2 ascii",
@@ -168,6 +141,39 @@ pub(crate) const LISTS: [Row; 30] = [
         compare: b"mix",
         text: b"utf16 bin 1 unicode",
         why: "a binary collation of ASCII",
+    },
+];
+
+pub(crate) const BYTES: [Row; 10] = [
+    Row {
+        operands: &[
+            b"binary bin 6 ascii",
+            b"binary bin 6 ascii",
+            b"binary bin 6 ascii",
+        ],
+        compare: b"binary bin 6 ascii",
+        text: b"binary bin 6 ascii",
+        why: "nothing but NULL",
+    },
+    Row {
+        operands: &[
+            b"binary bin 6 ascii",
+            b"latin1 ci 2 latin1",
+            b"binary bin 6 ascii",
+        ],
+        compare: b"latin1 ci 2 latin1",
+        text: b"latin1 ci 2 latin1",
+        why: "one beside NULL",
+    },
+    Row {
+        operands: &[
+            b"latin1 ci 2 latin1",
+            b"latin1 cs 2 latin1",
+            b"binary bin 6 ascii",
+        ],
+        compare: b"mix",
+        text: b"latin1 bin 1 latin1",
+        why: "two columns share their set",
     },
     Row {
         operands: &[
@@ -239,6 +245,9 @@ pub(crate) const LISTS: [Row; 30] = [
         text: b"utf8mb4 bin 5 ascii",
         why: "numbers",
     },
+];
+
+pub(crate) const FOUR: [Row; 7] = [
     Row {
         operands: &[
             b"latin1 ci 2 latin1",

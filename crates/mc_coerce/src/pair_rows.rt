@@ -1,12 +1,58 @@
 //! Printed by tools/coercibility_table.py, which works the answers out from the rules.
 
-/// Two operands, and which of them beats the other one.
-pub(crate) const PAIRS: [&'static [u8]; 229] = [
+/// Operands of one set: which one beats the other.
+pub(crate) const ONE_SET: [&'static [u8]; 47] = [
     b"binary bin 2 bytes | binary bin 2 ascii | both",
     b"binary bin 2 bytes | binary bin 3 bytes | first",
     b"binary bin 2 bytes | binary bin 2 bytes | both",
     b"binary bin 2 bytes | binary bin 1 bytes | second",
     b"binary bin 0 bytes | binary bin 0 bytes | both",
+    b"latin1 ci 2 latin1 | latin1 ci 2 ascii | both",
+    b"latin1 ci 2 latin1 | latin1 ci 3 latin1 | first",
+    b"latin1 ci 2 latin1 | latin1 cs 2 latin1 | neither",
+    b"latin1 bin 2 latin1 | latin1 ci 2 latin1 | first",
+    b"latin1 bin 2 latin1 | latin1 ci 1 latin1 | second",
+    b"latin1 ci 0 latin1 | latin1 bin 0 latin1 | neither",
+    b"ascii ci 2 ascii | ascii ci 2 ascii | both",
+    b"ascii ci 2 ascii | ascii ci 3 ascii | first",
+    b"ascii ci 2 ascii | ascii cs 2 ascii | neither",
+    b"ascii bin 2 ascii | ascii ci 2 ascii | first",
+    b"ascii bin 2 ascii | ascii ci 1 ascii | second",
+    b"ascii ci 0 ascii | ascii bin 0 ascii | neither",
+    b"utf8mb3 ci 2 bmp | utf8mb3 ci 2 ascii | both",
+    b"utf8mb3 ci 2 bmp | utf8mb3 ci 3 bmp | first",
+    b"utf8mb3 ci 2 bmp | utf8mb3 cs 2 bmp | neither",
+    b"utf8mb3 bin 2 bmp | utf8mb3 ci 2 bmp | first",
+    b"utf8mb3 bin 2 bmp | utf8mb3 ci 1 bmp | second",
+    b"utf8mb3 ci 0 bmp | utf8mb3 bin 0 bmp | neither",
+    b"utf8mb4 ci 2 unicode | utf8mb4 ci 2 ascii | both",
+    b"utf8mb4 ci 2 unicode | utf8mb4 ci 3 unicode | first",
+    b"utf8mb4 ci 2 unicode | utf8mb4 cs 2 unicode | neither",
+    b"utf8mb4 bin 2 unicode | utf8mb4 ci 2 unicode | first",
+    b"utf8mb4 bin 2 unicode | utf8mb4 ci 1 unicode | second",
+    b"utf8mb4 ci 0 unicode | utf8mb4 bin 0 unicode | neither",
+    b"ucs2 ci 2 bmp | ucs2 ci 2 ascii | both",
+    b"ucs2 ci 2 bmp | ucs2 ci 3 bmp | first",
+    b"ucs2 ci 2 bmp | ucs2 cs 2 bmp | neither",
+    b"ucs2 bin 2 bmp | ucs2 ci 2 bmp | first",
+    b"ucs2 bin 2 bmp | ucs2 ci 1 bmp | second",
+    b"ucs2 ci 0 bmp | ucs2 bin 0 bmp | neither",
+    b"utf16 ci 2 unicode | utf16 ci 2 ascii | both",
+    b"utf16 ci 2 unicode | utf16 ci 3 unicode | first",
+    b"utf16 ci 2 unicode | utf16 cs 2 unicode | neither",
+    b"utf16 bin 2 unicode | utf16 ci 2 unicode | first",
+    b"utf16 bin 2 unicode | utf16 ci 1 unicode | second",
+    b"utf16 ci 0 unicode | utf16 bin 0 unicode | neither",
+    b"utf32 ci 2 unicode | utf32 ci 2 ascii | both",
+    b"utf32 ci 2 unicode | utf32 ci 3 unicode | first",
+    b"utf32 ci 2 unicode | utf32 cs 2 unicode | neither",
+    b"utf32 bin 2 unicode | utf32 ci 2 unicode | first",
+    b"utf32 bin 2 unicode | utf32 ci 1 unicode | second",
+    b"utf32 ci 0 unicode | utf32 bin 0 unicode | neither",
+];
+
+/// Operands of binary, and of a later set: which one beats the other.
+pub(crate) const BINARY: [&'static [u8]; 47] = [
     b"binary bin 2 ascii | latin1 ci 2 ascii | first",
     b"binary bin 2 bytes | latin1 ci 2 ascii | first",
     b"binary bin 2 ascii | latin1 ci 2 latin1 | first",
@@ -54,12 +100,10 @@ pub(crate) const PAIRS: [&'static [u8]; 229] = [
     b"binary bin 2 ascii | utf32 ci 4 unicode | first",
     b"binary bin 5 bytes | utf32 ci 2 ascii | neither",
     b"binary bin 0 ascii | utf32 ci 0 unicode | neither",
-    b"latin1 ci 2 latin1 | latin1 ci 2 ascii | both",
-    b"latin1 ci 2 latin1 | latin1 ci 3 latin1 | first",
-    b"latin1 ci 2 latin1 | latin1 cs 2 latin1 | neither",
-    b"latin1 bin 2 latin1 | latin1 ci 2 latin1 | first",
-    b"latin1 bin 2 latin1 | latin1 ci 1 latin1 | second",
-    b"latin1 ci 0 latin1 | latin1 bin 0 latin1 | neither",
+];
+
+/// Operands of latin1, and of a later set: which one beats the other.
+pub(crate) const LATIN1: [&'static [u8]; 40] = [
     b"latin1 ci 2 ascii | ascii ci 2 ascii | first",
     b"latin1 ci 2 latin1 | ascii ci 2 ascii | first",
     b"latin1 ci 2 ascii | ascii ci 4 ascii | first",
@@ -100,12 +144,10 @@ pub(crate) const PAIRS: [&'static [u8]; 229] = [
     b"latin1 ci 2 ascii | utf32 ci 4 unicode | neither",
     b"latin1 ci 5 latin1 | utf32 ci 2 ascii | second",
     b"latin1 ci 0 ascii | utf32 ci 0 unicode | neither",
-    b"ascii ci 2 ascii | ascii ci 2 ascii | both",
-    b"ascii ci 2 ascii | ascii ci 3 ascii | first",
-    b"ascii ci 2 ascii | ascii cs 2 ascii | neither",
-    b"ascii bin 2 ascii | ascii ci 2 ascii | first",
-    b"ascii bin 2 ascii | ascii ci 1 ascii | second",
-    b"ascii ci 0 ascii | ascii bin 0 ascii | neither",
+];
+
+/// Operands of ascii, and of a later set: which one beats the other.
+pub(crate) const ASCII: [&'static [u8]; 25] = [
     b"ascii ci 2 ascii | utf8mb3 ci 2 ascii | second",
     b"ascii ci 2 ascii | utf8mb3 ci 2 bmp | second",
     b"ascii ci 2 ascii | utf8mb3 ci 4 bmp | neither",
@@ -131,12 +173,10 @@ pub(crate) const PAIRS: [&'static [u8]; 229] = [
     b"ascii ci 2 ascii | utf32 ci 4 unicode | neither",
     b"ascii ci 5 ascii | utf32 ci 2 ascii | second",
     b"ascii ci 0 ascii | utf32 ci 0 unicode | neither",
-    b"utf8mb3 ci 2 bmp | utf8mb3 ci 2 ascii | both",
-    b"utf8mb3 ci 2 bmp | utf8mb3 ci 3 bmp | first",
-    b"utf8mb3 ci 2 bmp | utf8mb3 cs 2 bmp | neither",
-    b"utf8mb3 bin 2 bmp | utf8mb3 ci 2 bmp | first",
-    b"utf8mb3 bin 2 bmp | utf8mb3 ci 1 bmp | second",
-    b"utf8mb3 ci 0 bmp | utf8mb3 bin 0 bmp | neither",
+];
+
+/// Operands of utf8mb3 or utf8mb4, and of a later set: which one beats the other.
+pub(crate) const UTF8: [&'static [u8]; 49] = [
     b"utf8mb3 ci 2 ascii | utf8mb4 ci 2 ascii | second",
     b"utf8mb3 ci 2 bmp | utf8mb4 ci 2 ascii | second",
     b"utf8mb3 ci 2 ascii | utf8mb4 ci 2 unicode | second",
@@ -165,12 +205,6 @@ pub(crate) const PAIRS: [&'static [u8]; 229] = [
     b"utf8mb3 ci 2 ascii | utf32 ci 4 unicode | neither",
     b"utf8mb3 ci 5 bmp | utf32 ci 2 ascii | second",
     b"utf8mb3 ci 0 ascii | utf32 ci 0 unicode | neither",
-    b"utf8mb4 ci 2 unicode | utf8mb4 ci 2 ascii | both",
-    b"utf8mb4 ci 2 unicode | utf8mb4 ci 3 unicode | first",
-    b"utf8mb4 ci 2 unicode | utf8mb4 cs 2 unicode | neither",
-    b"utf8mb4 bin 2 unicode | utf8mb4 ci 2 unicode | first",
-    b"utf8mb4 bin 2 unicode | utf8mb4 ci 1 unicode | second",
-    b"utf8mb4 ci 0 unicode | utf8mb4 bin 0 unicode | neither",
     b"utf8mb4 ci 2 ascii | ucs2 ci 2 ascii | neither",
     b"utf8mb4 ci 2 unicode | ucs2 ci 2 ascii | first",
     b"utf8mb4 ci 2 ascii | ucs2 ci 2 bmp | second",
@@ -192,12 +226,10 @@ pub(crate) const PAIRS: [&'static [u8]; 229] = [
     b"utf8mb4 ci 2 ascii | utf32 ci 4 unicode | first",
     b"utf8mb4 ci 5 unicode | utf32 ci 2 ascii | second",
     b"utf8mb4 ci 0 ascii | utf32 ci 0 unicode | neither",
-    b"ucs2 ci 2 bmp | ucs2 ci 2 ascii | both",
-    b"ucs2 ci 2 bmp | ucs2 ci 3 bmp | first",
-    b"ucs2 ci 2 bmp | ucs2 cs 2 bmp | neither",
-    b"ucs2 bin 2 bmp | ucs2 ci 2 bmp | first",
-    b"ucs2 bin 2 bmp | ucs2 ci 1 bmp | second",
-    b"ucs2 ci 0 bmp | ucs2 bin 0 bmp | neither",
+];
+
+/// Operands of ucs2 or utf16 or utf32, and of a later set: which one beats the other.
+pub(crate) const WIDE: [&'static [u8]; 21] = [
     b"ucs2 ci 2 ascii | utf16 ci 2 ascii | second",
     b"ucs2 ci 2 bmp | utf16 ci 2 ascii | second",
     b"ucs2 ci 2 ascii | utf16 ci 2 unicode | second",
@@ -212,12 +244,6 @@ pub(crate) const PAIRS: [&'static [u8]; 229] = [
     b"ucs2 ci 2 ascii | utf32 ci 4 unicode | neither",
     b"ucs2 ci 5 bmp | utf32 ci 2 ascii | second",
     b"ucs2 ci 0 ascii | utf32 ci 0 unicode | neither",
-    b"utf16 ci 2 unicode | utf16 ci 2 ascii | both",
-    b"utf16 ci 2 unicode | utf16 ci 3 unicode | first",
-    b"utf16 ci 2 unicode | utf16 cs 2 unicode | neither",
-    b"utf16 bin 2 unicode | utf16 ci 2 unicode | first",
-    b"utf16 bin 2 unicode | utf16 ci 1 unicode | second",
-    b"utf16 ci 0 unicode | utf16 bin 0 unicode | neither",
     b"utf16 ci 2 ascii | utf32 ci 2 ascii | neither",
     b"utf16 ci 2 unicode | utf32 ci 2 ascii | first",
     b"utf16 ci 2 ascii | utf32 ci 2 unicode | second",
@@ -225,10 +251,4 @@ pub(crate) const PAIRS: [&'static [u8]; 229] = [
     b"utf16 ci 2 ascii | utf32 ci 4 unicode | first",
     b"utf16 ci 5 unicode | utf32 ci 2 ascii | second",
     b"utf16 ci 0 ascii | utf32 ci 0 unicode | neither",
-    b"utf32 ci 2 unicode | utf32 ci 2 ascii | both",
-    b"utf32 ci 2 unicode | utf32 ci 3 unicode | first",
-    b"utf32 ci 2 unicode | utf32 cs 2 unicode | neither",
-    b"utf32 bin 2 unicode | utf32 ci 2 unicode | first",
-    b"utf32 bin 2 unicode | utf32 ci 1 unicode | second",
-    b"utf32 ci 0 unicode | utf32 bin 0 unicode | neither",
 ];

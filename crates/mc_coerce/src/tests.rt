@@ -1,5 +1,5 @@
-use crate::list_rows::LISTS;
-use crate::pair_rows::PAIRS;
+use crate::list_rows::{BYTES, COLUMNS, FOUR, Row, UNICODE};
+use crate::pair_rows::{ASCII, BINARY, LATIN1, ONE_SET, UTF8, WIDE};
 use crate::{Agg, Operand, Purpose, aggregate, are_operands, beats};
 use mc_base::{List, NoMemory, hex_number, next_field};
 use mc_charset::{Charset, CollId, bin_of, charset_by_name};
@@ -17,7 +17,7 @@ fn operand(line: &[u8]) -> Option<(Operand, &[u8])> {
         charset,
         collation: collation(charset, kind)?,
         bin: kind == b"bin".as_slice(),
-        level: hex_number(level)? as u8,
+        level: u8::try_from(hex_number(level)?).ok()?,
         repertoire: repertoire(class)?,
     };
     Some((operand, line))
@@ -67,11 +67,50 @@ fn beat_so(row: &[u8]) -> Option<bool> {
     Some(beats(&a, &b) == first && beats(&b, &a) == second)
 }
 
-#[test]
-fn pairs_beat_as_worked_out(rt: HostRuntime) {
-    for row in &PAIRS {
-        assert!(rt; beat_so(row) == Some(true), "{row:?}");
+/// The first row that isn't so, or an empty text.
+fn wrong_row(rows: &[&'static [u8]]) -> &'static [u8] {
+    for row in rows {
+        if beat_so(row) != Some(true) {
+            return row;
+        }
     }
+    b""
+}
+
+#[test]
+fn pairs_of_one_set(rt: HostRuntime) {
+    let wrong = wrong_row(&ONE_SET);
+    assert!(rt; wrong.is_empty(), "{wrong:?}");
+}
+
+#[test]
+fn pairs_with_binary(rt: HostRuntime) {
+    let wrong = wrong_row(&BINARY);
+    assert!(rt; wrong.is_empty(), "{wrong:?}");
+}
+
+#[test]
+fn pairs_with_latin1(rt: HostRuntime) {
+    let wrong = wrong_row(&LATIN1);
+    assert!(rt; wrong.is_empty(), "{wrong:?}");
+}
+
+#[test]
+fn pairs_with_ascii(rt: HostRuntime) {
+    let wrong = wrong_row(&ASCII);
+    assert!(rt; wrong.is_empty(), "{wrong:?}");
+}
+
+#[test]
+fn pairs_with_utf8(rt: HostRuntime) {
+    let wrong = wrong_row(&UTF8);
+    assert!(rt; wrong.is_empty(), "{wrong:?}");
+}
+
+#[test]
+fn pairs_of_wide_sets(rt: HostRuntime) {
+    let wrong = wrong_row(&WIDE);
+    assert!(rt; wrong.is_empty(), "{wrong:?}");
 }
 
 /// The operands that the texts say; none where one says none.
@@ -95,20 +134,46 @@ fn is_answer(agg: Agg, want: &[u8]) -> bool {
 }
 
 /// Whether the operands have this together, to be compared and as a text.
-fn have(alloc: Global, texts: &[&[u8]], compare: &[u8], text: &[u8]) -> Result<bool, NoMemory> {
-    let list = operands(alloc, texts)?;
+fn have(alloc: Global, row: &Row) -> Result<bool, NoMemory> {
+    let list = operands(alloc, row.operands)?;
     Ok(
         list.len() > 2
             && are_operands(list.as_slice())
-            && is_answer(aggregate(list.as_slice(), Purpose::Compare), compare)
-            && is_answer(aggregate(list.as_slice(), Purpose::Text), text),
+            && is_answer(aggregate(list.as_slice(), Purpose::Compare), row.compare)
+            && is_answer(aggregate(list.as_slice(), Purpose::Text), row.text),
     )
 }
 
-#[test]
-fn lists_have_together_what_was_worked_out(rt: HostRuntime) {
-    for row in &LISTS {
-        let are = have(rt.alloc(), row.operands, row.compare, row.text);
-        assert!(rt; are.unwrap_or(false), "{}", row.why);
+/// What the first row shows that isn't so, or an empty text.
+fn wrong_list(alloc: Global, rows: &[Row]) -> &'static str {
+    for row in rows {
+        if !have(alloc, row).unwrap_or(false) {
+            return row.why;
+        }
     }
+    ""
+}
+
+#[test]
+fn lists_of_columns(rt: HostRuntime) {
+    let wrong = wrong_list(rt.alloc(), &COLUMNS);
+    assert!(rt; wrong.is_empty(), "{wrong}");
+}
+
+#[test]
+fn lists_of_unicode_sets(rt: HostRuntime) {
+    let wrong = wrong_list(rt.alloc(), &UNICODE);
+    assert!(rt; wrong.is_empty(), "{wrong}");
+}
+
+#[test]
+fn lists_with_bytes_and_null(rt: HostRuntime) {
+    let wrong = wrong_list(rt.alloc(), &BYTES);
+    assert!(rt; wrong.is_empty(), "{wrong}");
+}
+
+#[test]
+fn lists_of_four(rt: HostRuntime) {
+    let wrong = wrong_list(rt.alloc(), &FOUR);
+    assert!(rt; wrong.is_empty(), "{wrong}");
 }

@@ -7,7 +7,8 @@ use Rattle.mc_coerce.proofs.agreement.aggregate.Goals as goal
 pub returns-then-count-eq0 : goal.returns-then-count-eq0
 returns-then-count-eq0 c =
     ap Uses c.of_bin.ensures
-    ∙ sym (aggregate-none c.args.list.now c.args.purpose (sym c.count.ensures ∙ c.if-count-eq0.true))
+    ∙ sym (aggregate-none c.args.list.now c.args.purpose
+    (sym c.count.ensures ∙ c.if-count-eq0.true))
 
 pub returns-in-Some : goal.returns-in-Some
 returns-in-Some c =
