@@ -6,6 +6,7 @@ mod blanks;
 mod boxed;
 mod fault_plan;
 mod fields;
+mod file;
 mod hex;
 mod lines;
 mod list;
@@ -25,6 +26,7 @@ mod whole;
 
 pub use boxed::Boxed;
 pub use fields::next_field;
+pub use file::{FileFault, read_file, refuse_file};
 pub use hex::hex_number;
 pub use lines::{Line, LineReader};
 pub use list::{List, Text, Weights};

@@ -9,6 +9,7 @@ use crate::char_at::CharAt;
 use crate::spelling::Spelling;
 
 /// The first character by all nine rows of the Unicode Standard's Table 3-7.
+#[inline(always)]
 pub(crate) fn next(text: &[u8]) -> CharAt
     ensures { IsFound (utf8_short_rows ++ utf8_long_rows) text.now result }
 {
@@ -19,6 +20,7 @@ pub(crate) fn next(text: &[u8]) -> CharAt
 }
 
 /// The first character by the first six rows: up to three bytes.
+#[inline(always)]
 pub(crate) fn next_short(text: &[u8]) -> CharAt
     ensures { IsFound utf8_short_rows text.now result }
 {
@@ -38,6 +40,7 @@ pub(crate) fn next_short(text: &[u8]) -> CharAt
 }
 
 /// The first character by the last three rows: four bytes.
+#[inline(always)]
 fn next_long(text: &[u8]) -> CharAt
     ensures { IsFound utf8_long_rows text.now result }
 {
@@ -68,6 +71,7 @@ fn next_long(text: &[u8]) -> CharAt
     }
 }
 
+#[inline(always)]
 fn two(a: u8, b: u8) -> CharAt
     requires first { 0xC0 ≤ a }
     requires second { 0x80 ≤ b }
@@ -79,6 +83,7 @@ fn two(a: u8, b: u8) -> CharAt
     }
 }
 
+#[inline(always)]
 fn three(a: u8, b: u8, c: u8) -> CharAt
     requires first { 0xE0 ≤ a }
     requires second { 0x80 ≤ b }
@@ -91,12 +96,14 @@ fn three(a: u8, b: u8, c: u8) -> CharAt
     }
 }
 
+#[inline(always)]
 fn four(a: u8, b: u8, c: u8, d: u8) -> CharAt
     requires first { 0xF0 ≤ a }
     requires second { 0x80 ≤ b }
     requires third { 0x80 ≤ c }
     requires fourth { 0x80 ≤ d }
-    ensures { result ≡ CharAt.Char ((a - 0xF0) * 262144 + (b - 0x80) * 4096 + (c - 0x80) * 64 + (d - 0x80)) 4 }
+    ensures { result ≡ CharAt.Char ((a - 0xF0) * 262144 + (b - 0x80) * 4096 + (c - 0x80) * 64 +
+        (d - 0x80)) 4 }
 {
     CharAt::Char {
         code: u32::from(a - 0xF0) * 262144
@@ -108,6 +115,7 @@ fn four(a: u8, b: u8, c: u8, d: u8) -> CharAt
 }
 
 /// The spelling of a code point by all nine rows.
+#[inline(always)]
 pub(crate) fn spelling(code: u32) -> Option<Spelling>
     ensures { option_map bytes_of result ≡ spelling_in (utf8_short_rows ++ utf8_long_rows) code }
 {
@@ -123,6 +131,7 @@ pub(crate) fn spelling(code: u32) -> Option<Spelling>
 }
 
 /// The spelling of a code point by the first six rows.
+#[inline(always)]
 pub(crate) fn spelling_short(code: u32) -> Option<Spelling>
     ensures { option_map bytes_of result ≡ spelling_in utf8_short_rows code }
 {
@@ -139,6 +148,7 @@ pub(crate) fn spelling_short(code: u32) -> Option<Spelling>
 }
 
 /// A byte behind the first: the last six bits.
+#[inline(always)]
 fn trail(bits: u32) -> u8
     ensures { result ≡ 0x80 + bits % 0x40 }
 {

@@ -7,6 +7,7 @@ mod laws;
 mod padding;
 mod plain;
 mod repertoire;
+mod steps;
 #[cfg(test)]
 mod tests;
 
