@@ -6,7 +6,8 @@ use Rattle.mc_token.specs.Bytes.{underscore}
 use Rattle.mc_token.specs.Keywords.{keyword_text}
 use Rattle.mc_token.specs.declared.keyword.Keyword.{Keyword as AKeyword}
 use Rattle.mc_token.specs.declared.kind.TokenKind.{TokenKind}
-use Rattle.mc_token.specs.declared.kind.TokenKind.TheVariants.{Keyword, Introducer, Word, Name, Int, Str}
+use Rattle.mc_token.specs.declared.kind.TokenKind.TheVariants.{Keyword, Introducer, Word, Name, Int}
+use Rattle.mc_token.specs.declared.kind.TokenKind.TheVariants.{Str}
 use Rattle.mc_token.specs.declared.kind.TokenKind.TheVariants.{National, Hex, Sym}
 use Rattle.mc_token.specs.declared.lexeme.Lexeme.{Lexeme}
 use Rattle.mc_token.specs.declared.lexeme.Lexeme.TheVariants as lexeme
