@@ -11,7 +11,7 @@ use Rattle.mc_token.specs.Elements.{quote_end}
 use Rattle.mc_token.specs.Hexadecimal.{digits_len}
 use Rattle.mc_token.specs.Marks.{mark_text, mark_of}
 use Rattle.mc_token.specs.Numbers.{decimals_len, int_of}
-use Rattle.mc_token.specs.Spellings.{word_len, opens_single, opens_hex, string_spelling, hex_string_spelling, hex_number_spelling, int_spelling, number_spelling, closes_name, name_spelling, mark_spelling, spelling_of}
+use Rattle.mc_token.specs.Spellings.{word_len, opens_single, opens_hex, string_spelling, hex_string_spelling, hex_number_spelling, int_spelling, number_spelling, closes_name, name_spelling, mark_spelling, other_spelling, letter_spelling, spelling_of}
 use Rattle.mc_token.specs.Spelled.{AreAll, EndOrNo, OpensPrefixed, name_limit, IsSpelled}
 use Rattle.mc_token.specs.declared.lexeme.Symbol.{Symbol}
 use Rattle.mc_token.specs.declared.spelling.Spelling.{Spelling}
@@ -354,12 +354,10 @@ front-mark : (first : ℕ) (others : List ℕ) (spelling : Spelling)
     → mark_spelling first others ≡ Some spelling → Front (first ∷ others) spelling
 front-mark first others spelling s = front-mark_by first others spelling _ refl s
 
--- The spelling found is that of a token.
-pub front : (first : ℕ) (others : List ℕ) (spelling : Spelling)
-    → spelling_of first others ≡ Some spelling → Front (first ∷ others) spelling
-unfolding spelling_of
-front first others spelling e =
-    elim (which (is_letter_n first && opens_single others) _ _ _ e) [
+front-letter : (first : ℕ) (others : List ℕ) (spelling : Spelling) → begins_word first ≡ true
+    → letter_spelling first others ≡ Some spelling → Front (first ∷ others) spelling
+front-letter first others spelling word s =
+    elim (which (is_letter_n first && opens_single others) _ _ _ s) [
       | inl w ↦
           let n = letter-opens others (is_letter_n first) w.0 in
           subst (λ (l : List ℕ). Front (first ∷ l) spelling) (sym n.1)
@@ -369,19 +367,29 @@ front first others spelling e =
             let x = letter-opens others (is_letter_x first) v.0 in
             subst (λ (l : List ℕ). Front (first ∷ l) spelling) (sym x.1)
             (front-hex_string first (drop 1 others) spelling x.0 v.1)
-        | inr v ↦ elim (which (begins_word first) _ _ _ v.1) [
-          | inl u ↦ front-word first others spelling (no-prefix first others w.0 v.0) u.0 u.1
-          | inr u ↦ elim (which (first == single_quote || first == double_quote) _ _ _ u.1) [
-            | inl t ↦ front-string first others _ spelling t.0 refl t.1
-            | inr t ↦ elim (which (is_ascii_digit first) _ _ _ t.1) [
-              | inl z ↦ front-number first others spelling z.0 z.1
-              | inr z ↦ elim (which (first == backquote) _ _ _ z.1) [
-                | inl y ↦ subst (λ b. Front (b ∷ others) spelling)
-                    (sym (eqb-true first backquote y.0)) (front-name others spelling y.1)
-                | inr y ↦ front-mark first others spelling y.1
-              ]
-            ]
-          ]
-        ]
+        | inr v ↦ front-word first others spelling (no-prefix first others w.0 v.0) word v.1
       ]
     ]
+
+front-other : (first : ℕ) (others : List ℕ) (spelling : Spelling)
+    → other_spelling first others ≡ Some spelling → Front (first ∷ others) spelling
+front-other first others spelling s = elim (which (is_ascii_digit first) _ _ _ s) [
+  | inl w ↦ front-number first others spelling w.0 w.1
+  | inr w ↦ elim (which (first == backquote) _ _ _ w.1) [
+    | inl v ↦ subst (λ b. Front (b ∷ others) spelling)
+        (sym (eqb-true first backquote v.0)) (front-name others spelling v.1)
+    | inr v ↦ front-mark first others spelling v.1
+  ]
+]
+
+-- The spelling found is that of a token.
+pub front : (first : ℕ) (others : List ℕ) (spelling : Spelling)
+    → spelling_of first others ≡ Some spelling → Front (first ∷ others) spelling
+unfolding spelling_of
+front first others spelling e = elim (which (begins_word first) _ _ _ e) [
+  | inl w ↦ front-letter first others spelling w.0 w.1
+  | inr w ↦ elim (which (first == single_quote || first == double_quote) _ _ _ w.1) [
+    | inl v ↦ front-string first others _ spelling v.0 refl v.1
+    | inr v ↦ front-other first others spelling v.1
+  ]
+]

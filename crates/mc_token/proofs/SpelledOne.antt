@@ -81,20 +81,22 @@ found-word first others never word =
       ap (λ l. first ∷ l) x.1,
       or_right (is_letter_n first) (is_letter_x first) x.0,
     )) in
-    rw (n_no, x_no, word) refl
+    rw (word, n_no, x_no) refl
 
 found-national : (letter : ℕ) (rest : List ℕ) → is_letter_n letter ≡ true
     → spelling_of letter (single_quote ∷ rest)
     ≡ string_spelling National 2 (quote_end single_quote 0 rest)
 unfolding spelling_of
-found-national letter rest n = rw n refl
+found-national letter rest n =
+    let word : begins_word letter ≡ true = grind (arith, nat_tests) in rw (word, n) refl
 
 found-hex_string : (letter : ℕ) (rest : List ℕ) → is_letter_x letter ≡ true
     → spelling_of letter (single_quote ∷ rest) ≡ hex_string_spelling rest
 unfolding spelling_of
 found-hex_string letter rest x =
     let n : is_letter_n letter ≡ false = grind (arith, nat_tests) in
-    rw (n, x) refl
+    let word : begins_word letter ≡ true = grind (arith, nat_tests) in
+    rw (word, n, x) refl
 
 found-string : (quote : ℕ) (rest : List ℕ) → IsQuote quote
     → spelling_of quote rest ≡ string_spelling Str 1 (quote_end quote 0 rest)
@@ -106,17 +108,13 @@ found-hex : (rest : List ℕ) → spelling_of digit_zero (small_x ∷ rest) ≡ 
 unfolding spelling_of
 found-hex rest = refl
 
--- a digit begins no word, and is neither a quote nor a letter
+-- a digit begins no word and no string
 record NoOther (first : ℕ) : Type 0 where
-  no_n : is_letter_n first ≡ false
-  no_x : is_letter_x first ≡ false
   no_word : begins_word first ≡ false
   no_quote : (first == single_quote || first == double_quote) ≡ false
 
 digit-other : (first : ℕ) → is_ascii_digit first ≡ true → NoOther first
 digit-other first e = record {
-  no_n = grind (arith, nat_tests);
-  no_x = grind (arith, nat_tests);
   no_word = grind (arith, nat_tests);
   no_quote = grind (arith, nat_tests);
 }
@@ -126,7 +124,7 @@ found-int : (first : ℕ) (rest : List ℕ) → is_ascii_digit first ≡ true �
 unfolding spelling_of
 found-int first rest digit no_hex =
     let o = digit-other first digit in
-    rw (o.no_n, o.no_x, o.no_word, o.no_quote, digit, no_hex, and_false (first == digit_zero)) refl
+    rw (o.no_word, o.no_quote, digit, no_hex, and_false (first == digit_zero)) refl
 
 found-name : (rest : List ℕ) → spelling_of backquote rest ≡ name_spelling rest
 unfolding spelling_of

@@ -100,13 +100,18 @@ other_spelling first behind =
     else (if first == backquote then name_spelling behind
     else mark_spelling first behind)
 
--- The spelling that a byte begins, beside the bytes behind it, where one does.
-unfoldable pub spelling_of : ℕ → List ℕ → Option Spelling
-spelling_of first behind =
+-- The spelling that a letter or `_` begins: a literal that `N` or `X` opens, or a word.
+abbrev pub letter_spelling : ℕ → List ℕ → Option Spelling
+letter_spelling first behind =
     if is_letter_n first && opens_single behind
     then string_spelling National 2 (quote_end single_quote 0 (drop 1 behind))
     else (if is_letter_x first && opens_single behind then hex_string_spelling (drop 1 behind)
-    else (if begins_word first then Some (record { shape = Word; len = 1 + word_len behind })
+    else Some (record { shape = Word; len = 1 + word_len behind }))
+
+-- The spelling that a byte begins, beside the bytes behind it, where one does.
+unfoldable pub spelling_of : ℕ → List ℕ → Option Spelling
+spelling_of first behind =
+    if begins_word first then letter_spelling first behind
     else (if first == single_quote || first == double_quote
     then string_spelling Str 1 (quote_end first 0 behind)
-    else other_spelling first behind)))
+    else other_spelling first behind)

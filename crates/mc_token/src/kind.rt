@@ -1,13 +1,19 @@
-ghost use Rattle.mc_token.specs.Kinds.{IsKind};
+ghost use Rattle.std.specs.Prelude.{◌≡◌, ◌≢◌};
+ghost use Rattle.mc_token.specs.Keywords.{keyword_text};
+ghost use Rattle.mc_token.specs.Kinds.{introduced_set, IsKind};
+ghost use Rattle.mc_token.specs.declared.keyword.Keyword.{Keyword};
 
 use crate::keyword::keyword_named;
 use crate::{Keyword, Lexeme, Symbol};
+use mc_charset::{Charset, charset_by_name};
 
 /// What a token is, without its text: what a parser looks at, told once for each token.
 #[derive(Clone, Copy, Debug, PartialEq, Eq)]
 pub enum TokenKind {
     /// A word that the grammar asks for by name.
     Keyword(Keyword),
+    /// `_` and the name of this character set: an introducer before a string, elsewhere a name.
+    Introducer(Charset),
     /// Any other word.
     Word,
     /// A name between backquotes.
@@ -45,6 +51,27 @@ fn kind_of_word(word: &[u8]) -> TokenKind
 {
     match keyword_named(word) {
         Some(keyword) => TokenKind::Keyword(keyword),
+        None => kind_of_other_word(word),
+    }
+}
+
+/// What a word is that is no keyword.
+fn kind_of_other_word(word: &[u8]) -> TokenKind
+    requires { (keyword : Keyword) → word.now ≢ keyword_text keyword }
+    ensures { IsKind result (Lexeme.Word word.now) }
+{
+    match introduced_set(word) {
+        Some(set) => TokenKind::Introducer(set),
         None => TokenKind::Word,
+    }
+}
+
+/// The character set whose name stands behind the `_` of a word.
+fn introduced_set(word: &[u8]) -> Option<Charset>
+    ensures { result ≡ introduced_set word.now }
+{
+    match word {
+        [b'_', name @ ..] => charset_by_name(name),
+        _ => None,
     }
 }

@@ -17,8 +17,8 @@ use crate::LexFault;
 /// script has behind it; else such a list covers it up to the byte of the fault, where nothing
 /// begins. They stand inside the statement, one behind the other. If the script is UTF-8, so is the
 /// text of each string. The text of a string is what the bytes between its quotes
-/// stand for: plain bytes for themselves, doubled quotes for one, escapes for theirs. The bytes of a
-/// hexadecimal literal, two digits each, have its digits, a 0 before an odd number of them.
+/// stand for: plain bytes for themselves, doubled quotes for one, escapes for theirs. The bytes of
+/// a hexadecimal literal, two digits each, have its digits, a 0 before an odd number of them.
 pub fn token_laws()
     ensures cover { (script : List ℕ) (statement : Span) (tokens : List Token)
         → statement.start ≤ statement.end → statement.end ≤ length script

@@ -5,12 +5,12 @@
 //! `tokens(alloc, script, statement)` its tokens, or the byte where none begins. Both are linear.
 //! `kind_of` tells once what a parser asks of a token, its keyword among it.
 //!
-//! In reading order: `element` cuts a script into spaces, comments, strings and semicolons,
-//! `statement` its elements into statements, with their laws in `cutting`. `lexeme` has the types of
-//! tokens. `spelling`, with `mark`, `number` and `hexadecimal`, finds the longest spelling that
-//! begins some bytes, `reading` what it says, and `piece` what begins at a byte: a blank, a token or
-//! nothing. `token` goes over a statement, and `laws` says what its tokens are without a scanner.
-//! `keyword` and `kind` tell what words are.
+//! In reading order: `element` cuts a script into spaces, comments, strings and semicolons, and
+//! `statement` its elements into statements, with their laws in `cutting`. `lexeme` has the types
+//! of tokens. `spelling`, with `mark`, `number` and `hexadecimal`, finds the longest spelling that
+//! begins some bytes, `reading` what it says, and `piece` what begins at a byte: a blank, a token
+//! or nothing. `token` goes over a statement, and `laws` says what its tokens are without a
+//! scanner. `keyword` and `kind` tell what words are.
 //!
 //! The definitions are in `specs/`, in the order of its `Lib.antt`.
 #![tactic(auto)]

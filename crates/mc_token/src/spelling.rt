@@ -37,6 +37,7 @@ ghost use Rattle.mc_token.specs.Spellings.{
   name_spelling,
   mark_spelling,
   other_spelling,
+  letter_spelling,
   spelling_of,
 };
 
@@ -89,19 +90,30 @@ pub fn spelling_of(bytes: &[u8]) -> Option<Spelling>
 {
     let first = bytes[0];
     let behind = &bytes[1..];
-    if is_letter_n(first) && opens_single(behind) {
-        national_spelling(&behind[1..])
-    } else if is_letter_x(first) && opens_single(behind) {
-        hex_string_spelling(&behind[1..])
-    } else if begins_word(first) {
-        Some(Spelling {
-            shape: Shape::Word,
-            len: 1 + word_len(behind),
-        })
+    if begins_word(first) {
+        letter_spelling(first, behind)
     } else if is_quote(first) {
         string_spelling(Shape::Str, 1, quote_end(first, behind), behind)
     } else {
         other_spelling(bytes)
+    }
+}
+
+/// The spelling that this letter or `_` begins, where these bytes are behind it.
+fn letter_spelling(first: u8, behind: &[u8]) -> Option<Spelling>
+    ensures value { result ≡ letter_spelling first behind.now }
+    ensures long_enough { IfSome result (λ spelling. least_len spelling.shape ≤ spelling.len) }
+    ensures within { IfSome result (λ spelling. spelling.len ≤ 1 + length behind.now) }
+{
+    if is_letter_n(first) && opens_single(behind) {
+        national_spelling(&behind[1..])
+    } else if is_letter_x(first) && opens_single(behind) {
+        hex_string_spelling(&behind[1..])
+    } else {
+        Some(Spelling {
+            shape: Shape::Word,
+            len: 1 + word_len(behind),
+        })
     }
 }
 

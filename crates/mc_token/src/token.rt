@@ -37,8 +37,8 @@ const TOKEN_LIMIT: usize = 2048;
 
 /// The tokens of a statement that `next_statement` gave: between them stand spaces and comments
 /// alone, and each is the longest one at its place. NoToken is at the first byte where none of
-/// these begins, or a string, a name or a comment that isn't closed. TooManyTokens comes where there
-/// are more than 2,048 tokens and no NoToken. MySQL 8.0 manual, 9.1, 9.2, 9.7 and 10.3.7.
+/// these begins, or a string, a name or a comment that isn't closed. TooManyTokens comes where
+/// there are more than 2,048 tokens and no NoToken. MySQL 8.0 manual, 9.1, 9.2, 9.7 and 10.3.7.
 #[tactic(auto, unfolding(crate::specs::Tokens::tokens_of))]
 pub fn tokens(alloc: Global, script: &[u8], statement: Span) -> Result<List<Token>, LexFault>
     requires in_order { statement.start ≤ statement.end }
