@@ -33,13 +33,8 @@ expect() { # a name, what is printed and the status wanted; then as `run`
     check "$1: the status is $status, wanted $3" $?
 }
 
-# README's first command. A run that builds the program tells each crate.
+# README's first command.
 expect "README: ./mycoll -e" "'a' = 'a  '"$'\n1' 0 "$top" -e "SELECT 'a' = 'a  '"
-if grep -q 'proving and building' "$room/said"; then
-    grep -qE '^mycoll: 1 of [0-9]+: mc_[a-z0-9]+, [0-9]+ s$' "$room/said" &&
-        grep -qE '^mycoll: ([0-9]+) of \1: mycoll, [0-9]+ s$' "$room/said"
-    check "./mycoll tells each crate that it proves" $?
-fi
 
 for folder in "$top"/examples/*/; do
     name=$(basename "$folder")
@@ -71,6 +66,29 @@ grep -qE '^mycoll, commit .+, proved by rattle-kit-' "$room/printed"
 check "./mycoll --version" $?
 usage='usage: mycoll [CATALOG] SCRIPT | --make N'
 expect "other words are the program's" "$usage" 2 "$top" --help --version -e
+
+# What is said while the program is built, in a folder where `rt` is played by a script.
+mkdir "$room/stub" "$room/bin"
+cp "$top/mycoll" "$top/crates.txt" "$room/stub"
+for crate in $(sed -n 's/^\([a-z][a-z0-9_]*\).*/\1/p' "$top/crates.txt"); do
+    mkdir -p "$room/stub/crates/$crate"
+done
+cat >"$room/bin/rt" <<'END'
+#!/bin/sh
+[ "$1" = lib ] && exec test "$(basename "$PWD")" != "$REFUSED"
+mkdir -p out && cp /bin/echo out/mycoll
+END
+chmod +x "$room/bin/rt"
+own_top=$top
+top=$room/stub
+PATH=$room/bin:$PATH REFUSED=mc_charset expect "a crate that fails" '' 70 "$room" 'words'
+grep -q '^mycoll: mc_charset was not built; the end' "$room/said"
+check "a crate that fails is told" $?
+PATH=$room/bin:$PATH REFUSED='' expect "a program that is built" 'one two' 0 "$room" one two
+grep -qE '^mycoll: 1 of [0-9]+: mc_base, [0-9]+ s$' "$room/said" &&
+    grep -qE '^mycoll: ([0-9]+) of \1: mycoll, [0-9]+ s$' "$room/said"
+check "each crate is told as it is proved" $?
+top=$own_top
 
 echo "$passed passed, $failed failed"
 [ "$failed" = 0 ]

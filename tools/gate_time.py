@@ -6,7 +6,9 @@ import subprocess
 import sys
 import threading
 import time
+from collections.abc import Callable
 from pathlib import Path
+from typing import IO
 
 from gate.report import between_marks, printed_report, table_for_document
 from gate.sizes import crates_of, edits_of, functions_in, sizes_of
@@ -59,7 +61,7 @@ def report(work: Work) -> str:
     return printed_report(work, {name: edits_of(TOP / "crates" / name) for name in crates_of(TOP)})
 
 
-def watched(root: int, is_running) -> Work:
+def watched(root: int, is_running: Callable[[], bool]) -> Work:
     """What the processes below a root spend until it ends."""
     work, next_look = Work(root), 0.0
     while is_running() and work.sample():
@@ -73,8 +75,8 @@ def watched(root: int, is_running) -> Work:
 
 def run(command: list[str]) -> tuple[int, str, Work]:
     """Runs a command, passing on what it prints: its status, its text, and what it cost."""
-    how = {"stdout": subprocess.PIPE, "stderr": subprocess.STDOUT}
-    with subprocess.Popen(command, text=True, errors="replace", **how) as process:
+    both = {"stdout": subprocess.PIPE, "stderr": subprocess.STDOUT}
+    with subprocess.Popen(command, text=True, errors="replace", **both) as process:
         lines: list[str] = []
         passing = threading.Thread(target=pass_on, args=(process.stdout, lines))
         passing.start()
@@ -83,7 +85,7 @@ def run(command: list[str]) -> tuple[int, str, Work]:
         return process.wait(), "".join(lines), work
 
 
-def pass_on(stream, lines: list[str]) -> None:
+def pass_on(stream: IO[str], lines: list[str]) -> None:
     """Prints each line of a stream, and keeps it."""
     for line in stream:
         print(line, end="", flush=True)

@@ -1,12 +1,15 @@
 """The tables of a gate: one to look at, one for a document."""
 
 import re
+from collections.abc import Mapping
+from typing import TypeVar
 
 from gate.sizes import Sizes
 from gate.work import KINDS, Work
 
 BEGIN = "<!-- tools/gate_time.py writes from here -->"
 END = "<!-- to here -->"
+Key = TypeVar("Key")
 HEADS = ("functions", "code", "definitions", "proofs", "edits")
 
 
@@ -39,7 +42,7 @@ def cells(seconds: dict[tuple[str, str], float], crate: str) -> list[str]:
     return [f"{time:.0f}" if time else "" for time in [*own, sum(own)]]
 
 
-def largest(numbers: dict, count: int) -> list:
+def largest(numbers: Mapping[Key, float], count: int) -> list[tuple[Key, float]]:
     """The keys of the largest numbers with these, the largest first."""
     return sorted(numbers.items(), key=lambda each: -each[1])[:count]
 

@@ -1,6 +1,7 @@
 """What a crate holds, from its files and from what a gate prints."""
 
 import re
+from collections.abc import Iterable
 from dataclasses import dataclass
 from pathlib import Path
 
@@ -37,7 +38,7 @@ def edits_of(folder: Path) -> list[str]:
     return [path.stem for path in sorted(folder.glob("must-fail/*.edit"))]
 
 
-def lines_in(paths) -> int:
+def lines_in(paths: Iterable[Path]) -> int:
     """The lines of some files that aren't blank."""
     return sum(bool(line.strip()) for path in paths for line in path.read_text().splitlines())
 
