@@ -1,8 +1,6 @@
-ghost use Rattle.mc_charset.specs.Chars.{chars};
 ghost use Rattle.mc_order.specs.Bin.{bin_meaning, bin_number, built_in};
 ghost use Rattle.mc_order.specs.BinLaws.{bin_lawful};
-ghost use Rattle.mc_order.specs.Laws.{IsLawful};
-ghost use Rattle.std.specs.Prelude.{◌≡◌, ◌+◌, ◌≤◌, ◌∷◌, [], map, slice_index_or};
+ghost use Rattle.std.specs.Prelude.{◌≡◌, ◌+◌, ◌≤◌, [], slice_index_or};
 
 use crate::bin_number::bin_number;
 use crate::{CharWeight, Collation, Pad, compare_chars, put_chars};

@@ -1,6 +1,6 @@
 ghost use Rattle.mc_charset.specs.Chars.{IsWellFormed};
 ghost use Rattle.mc_order.specs.Boundary.{IsBoundary, SharesFront, may_begin};
-ghost use Rattle.std.specs.Prelude.{◌≡◌, ◌≤◌, ◌<◌, IsTrue, length, take};
+ghost use Rattle.std.specs.Prelude.{◌≡◌, ◌≤◌, ◌<◌, IsTrue, length};
 
 use crate::shared_bytes;
 use mc_charset::{Charset, chars_law};

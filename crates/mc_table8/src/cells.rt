@@ -1,11 +1,10 @@
-ghost use Rattle.std.specs.Prelude.{◌≡◌, ◌≢◌, ℕ, ◌+◌, ◌-◌, ◌≤◌, ◌<◌, Some, None, [], ◌∷◌, ◌++◌};
-ghost use Rattle.std.specs.Prelude.{List, length, not, slice_index_or, if◌then◌else◌, IfOk, IsTrue};
+ghost use Rattle.std.specs.Prelude.{◌≡◌, ◌+◌, ◌-◌, ◌≤◌, ◌<◌, Some, None, [], ◌∷◌, ◌++◌};
+ghost use Rattle.std.specs.Prelude.{List, length, not, IfOk, IsTrue};
 ghost use Rattle.std.specs.Bool.{OnTrue, OnFalse};
 ghost use Rattle.std.specs.List.{list_any};
 ghost use Rattle.mc_table8.specs.Cells.{IsListing, IsFilled, IsTaken};
 ghost use Rattle.mc_table8.specs.Formats.{greatest_of};
 ghost use Rattle.mc_table8.specs.Listing.{repeats};
-ghost use Rattle.mc_table8.specs.Runs.{lists_code, weight_in};
 ghost use Rattle.mc_table8.specs.WeightLines.{is_sound};
 ghost use Rattle.mc_table8.specs.declared.weight_line.WeightLine.{WeightLine};
 

@@ -1,5 +1,4 @@
 ghost use Rattle.mc_charset.specs.Names.{is_unicode_set};
-ghost use Rattle.mc_order.specs.Laws.{IsLawful};
 ghost use Rattle.mc_table8.specs.General.{code_weight};
 ghost use Rattle.mc_table8.specs.GeneralLaws.{general_lawful};
 ghost use Rattle.mc_table8.specs.GeneralMeaning.{general_meaning};

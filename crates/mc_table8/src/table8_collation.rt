@@ -1,5 +1,3 @@
-ghost use Rattle.mc_charset.specs.Chars.{chars};
-ghost use Rattle.mc_order.specs.Laws.{IsLawful};
 ghost use Rattle.mc_table8.specs.Table8Laws.{table8_lawful};
 ghost use Rattle.mc_table8.specs.Table8Meaning.{is_byte_set, table8_meaning};
 ghost use Rattle.std.specs.Prelude.{◌≡◌, IsTrue, take};
