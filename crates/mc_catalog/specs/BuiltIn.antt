@@ -16,11 +16,13 @@ built_in_sets = Binary ∷ Latin1 ∷ Ascii ∷ Utf8mb3 ∷ Utf8mb4 ∷ Ucs2 ∷
 
 -- The binary collation of a name and a set, of no file.
 abbrev pub built_in_collation : List ℕ → Charset → CollDecl
-built_in_collation name set = record { name = name; charset = set; kind = Bin; file = []; rules = None }
+built_in_collation name set =
+    record { name = name; charset = set; kind = Bin; file = []; rules = None }
 
 -- The built-in collations, in the order of their numbers.
 abbrev pub built_in_collations : List CollDecl
-built_in_collations = map (λ declared. built_in_collation declared.0 declared.1) (zip built_in_names built_in_sets)
+built_in_collations =
+    map (λ declared. built_in_collation declared.0 declared.1) (zip built_in_names built_in_sets)
 
 -- The number of utf8mb4_bin.
 abbrev pub utf8mb4_bin : CollId

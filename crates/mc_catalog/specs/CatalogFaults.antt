@@ -46,21 +46,27 @@ is_wrong_set _ _ = false
 -- The tests of a collation: at most 64 are declared beside the nine built-in ones.
 abbrev pub collation_tests : List CollDecl → List ℕ → Option Charset → Option Kind → Tests
 collation_tests collations name set kind =
-    (UnknownCharset, is_none set) ∷ (UnknownKind, is_none kind) ∷ (WrongCharset, is_wrong_set kind set)
-    ∷ (Repeated, list_any (λ other. bytes_eq other.name name) collations) ∷ (TooMany, nat_le most_collations (length collations)) ∷ []
+    (UnknownCharset, is_none set) ∷ (UnknownKind, is_none kind)
+    ∷ (WrongCharset, is_wrong_set kind set)
+    ∷ (Repeated, list_any (λ other. bytes_eq other.name name) collations)
+    ∷ (TooMany, nat_le most_collations (length collations)) ∷ []
 
 -- The tests of a connection line: there is at most one.
 abbrev pub connection_tests : List CollDecl → List ℕ → Option CollId → Tests
-connection_tests collations name connection = (UnknownCollation, is_none (number_of collations name)) ∷ (Repeated, is_some connection) ∷ []
+connection_tests collations name connection =
+    (UnknownCollation, is_none (number_of collations name)) ∷ (Repeated, is_some connection) ∷ []
 
 -- The tests of a table: there are at most 16.
 abbrev pub table_tests : List TableDecl → List ℕ → Tests
-table_tests tables name = (Repeated, list_any (λ table. bytes_eq table.name name) tables) ∷ (TooMany, nat_le most_tables (length tables)) ∷ []
+table_tests tables name =
+    (Repeated, list_any (λ table. bytes_eq table.name name) tables)
+    ∷ (TooMany, nat_le most_tables (length tables)) ∷ []
 
 -- The tests of a column: a table has at most 32.
 abbrev pub column_tests : List CollDecl → List ℕ → ColumnForm → TableDecl → Tests
 column_tests collations name form table =
-    (UnknownCollation, is_none (type_of collations form)) ∷ (Repeated, list_any (λ column. bytes_eq column.name name) table.columns)
+    (UnknownCollation, is_none (type_of collations form))
+    ∷ (Repeated, list_any (λ column. bytes_eq column.name name) table.columns)
     ∷ (TooMany, nat_le most_columns (length table.columns)) ∷ []
 
 -- The greatest length of the values of the column of this name.
@@ -75,8 +81,10 @@ is_bad_length _ _ = false
 -- The tests of an index: a table has at most 8.
 abbrev pub index_tests : List ℕ → List ℕ → Option ℕ → TableDecl → Tests
 index_tests name column prefix table =
-    (UnknownColumn, is_none (indexed_column table.columns column)) ∷ (BadLength, is_bad_length prefix (indexed_width table.columns column))
-    ∷ (Repeated, list_any (λ index. bytes_eq index.name name) table.indexes) ∷ (TooMany, nat_le most_indexes (length table.indexes)) ∷ []
+    (UnknownColumn, is_none (indexed_column table.columns column))
+    ∷ (BadLength, is_bad_length prefix (indexed_width table.columns column))
+    ∷ (Repeated, list_any (λ index. bytes_eq index.name name) table.indexes)
+    ∷ (TooMany, nat_le most_indexes (length table.indexes)) ∷ []
 
 -- The tests of a part of the last table, which there must be.
 abbrev pub tests_in : (TableDecl → Tests) → Option TableDecl → Tests
@@ -85,7 +93,8 @@ tests_in tests (Some table) = tests table
 
 -- The tests of an entry behind some lines.
 abbrev pub tests_of : Progress → Entry → Tests
-tests_of so_far (Collation name set kind file rules) = collation_tests so_far.collations name set kind
+tests_of so_far (Collation name set kind file rules) =
+    collation_tests so_far.collations name set kind
 tests_of so_far (Connection name) = connection_tests so_far.collations name so_far.connection
 tests_of so_far (Table name file) = table_tests (tables_of so_far) name
 tests_of so_far (Column name form) = tests_in (column_tests so_far.collations name form) so_far.last
@@ -98,7 +107,9 @@ kind_of_fault so_far (Some entry) = first_of (tests_of so_far entry)
 
 -- The fault of a line behind these, if it has one.
 abbrev pub fault_of : List (ℕ × List ℕ) → ℕ × List ℕ → Option CatalogFault
-fault_of before line = option_map (λ kind. record { kind = kind; line = line.0 }) (kind_of_fault (said_by before) (entry_of line.1))
+fault_of before line =
+    option_map (λ kind. record { kind = kind; line = line.0 })
+    (kind_of_fault (said_by before) (entry_of line.1))
 
 -- The place of the first table that has no column.
 abbrev pub bare_place : List TableDecl → Option ℕ
@@ -106,14 +117,16 @@ bare_place tables = position (λ table. length table.columns == 0) tables
 
 -- The first table without a column begins at the line of this number.
 abbrev pub IsBareLine : Progress → ℕ → Type 0
-IsBareLine said number = (place : ℕ) × (bare_place (tables_of said) ≡ Some place) × (slice_get said.table_lines place ≡ Some number)
+IsBareLine said number =
+    (place : ℕ) × (bare_place (tables_of said) ≡ Some place)
+    × (slice_get said.table_lines place ≡ Some number)
 
 -- Some lines are those of a catalog: none has a fault, and each table has a column.
 abbrev pub IsAccepted : List (ℕ × List ℕ) → Type 0
 IsAccepted lines = HasNoFault fault_of lines × (bare_place (tables_of (said_by lines)) ≡ None)
 
--- Some lines are refused so: with the first fault of a line, or, where no line has one, at the first
--- table without a column. Want of memory has no cause in the lines, and no line.
+-- Some lines are refused so: with the first fault of a line, or, where no line has one, at the
+-- first table without a column. Want of memory has no cause in the lines, and no line.
 abbrev pub IsRefused : List (ℕ × List ℕ) → CatalogFaultKind → ℕ → Type 0
 IsRefused lines NoMemory number = number ≡ 0
 IsRefused lines NoColumn number = HasNoFault fault_of lines × IsBareLine (said_by lines) number

@@ -26,7 +26,8 @@ may_have_rules (Some kind) = takes_rules kind
 -- The file of the rules that these fields name behind a kind: none, or `rules FILE`.
 unfoldable pub rules_part : Option Kind → List (List ℕ) → Option (Option (List ℕ))
 rules_part kind [] = Some None
-rules_part kind (word ∷ file ∷ []) = if bytes_eq word (codes "rules") && may_have_rules kind then Some (Some file) else None
+rules_part kind (word ∷ file ∷ []) =
+    if bytes_eq word (codes "rules") && may_have_rules kind then Some (Some file) else None
 rules_part kind _ = None
 
 -- `NAME SET KIND FILE` or `NAME SET KIND FILE rules FILE`.
@@ -54,15 +55,19 @@ whole_form word = if bytes_eq word (codes "bigint") then Some (Plain BigInt) els
 -- `binary N` or `varbinary N`.
 unfoldable pub binary_form : List ℕ → List ℕ → Option ColumnForm
 binary_form word n =
-    if bytes_eq word (codes "binary") then option_map (λ n. Plain (Binary n)) (length_of longest_char n)
-    else if bytes_eq word (codes "varbinary") then option_map (λ n. Plain (VarBinary n)) (length_of longest_varchar n)
+    if bytes_eq word (codes "binary") then option_map (λ n. Plain (Binary n))
+    (length_of longest_char n)
+    else if bytes_eq word (codes "varbinary") then option_map (λ n. Plain (VarBinary n))
+    (length_of longest_varchar n)
     else None
 
 -- `char N COLLATION` or `varchar N COLLATION`.
 unfoldable pub text_form : List ℕ → List ℕ → List ℕ → Option ColumnForm
 text_form word n collation =
-    if bytes_eq word (codes "char") then option_and_then (λ n. option_map (Char n) (field_name collation)) (length_of longest_char n)
-    else if bytes_eq word (codes "varchar") then option_and_then (λ n. option_map (VarChar n) (field_name collation)) (length_of longest_varchar n)
+    if bytes_eq word (codes "char") then option_and_then
+    (λ n. option_map (Char n) (field_name collation)) (length_of longest_char n)
+    else if bytes_eq word (codes "varchar") then option_and_then
+    (λ n. option_map (VarChar n) (field_name collation)) (length_of longest_varchar n)
     else None
 
 -- The type of a column, as its fields have it.
@@ -75,7 +80,9 @@ column_form _ = None
 -- `NAME` and the type.
 unfoldable pub column_entry : List (List ℕ) → Option Entry
 column_entry [] = None
-column_entry (name ∷ form) = option_and_then (λ form. option_map (λ name. Column name form) (field_name name)) (column_form form)
+column_entry (name ∷ form) =
+    option_and_then (λ form. option_map (λ name. Column name form) (field_name name))
+    (column_form form)
 
 -- The length of the front that an index covers: none, or `K`.
 unfoldable pub prefix_part : List (List ℕ) → Option (Option ℕ)
@@ -86,7 +93,9 @@ prefix_part _ = None
 -- `NAME COLUMN` or `NAME COLUMN K`.
 unfoldable pub index_entry : List (List ℕ) → Option Entry
 index_entry (name ∷ column ∷ more) =
-    option_and_then (λ prefix. option_and_then (λ name. option_map (λ column. Index name column prefix) (field_name column)) (field_name name)) (prefix_part more)
+    option_and_then (λ prefix. option_and_then
+    (λ name. option_map (λ column. Index name column prefix) (field_name column)) (field_name name))
+    (prefix_part more)
 index_entry _ = None
 
 -- The entry of a line's fields, the first of which says what it is.

@@ -16,7 +16,8 @@ use Rattle.mc_catalog.specs.declared.catalog.ColumnDecl.{ColumnDecl}
 use Rattle.mc_catalog.specs.declared.catalog.IndexDecl.{IndexDecl}
 use Rattle.mc_catalog.specs.declared.catalog.TableDecl.{TableDecl}
 use Rattle.mc_catalog.specs.declared.catalog.Catalog.{Catalog}
-use Rattle.mc_catalog.specs.Limits.{built_in_count, longest_char, longest_varchar, most_collations, most_columns, most_indexes, most_tables}
+use Rattle.mc_catalog.specs.Limits.{built_in_count, longest_char, longest_varchar, most_collations}
+use Rattle.mc_catalog.specs.Limits.{most_columns, most_indexes, most_tables}
 use Rattle.mc_catalog.specs.BuiltIn.{built_in_collations}
 
 -- Whether a set has one byte for each character of a text: latin1 and ascii.
@@ -50,9 +51,11 @@ takes_rules _ = true
 
 -- A declared collation has a kind that suits its set, and rules only where the kind takes them.
 abbrev pub IsLawfulCollation : CollDecl → Type 0
-IsLawfulCollation declared = IsTrue (suits declared.kind declared.charset) × IfSome declared.rules (λ _. IsTrue (takes_rules declared.kind))
+IsLawfulCollation declared =
+    IsTrue (suits declared.kind declared.charset) × IfSome declared.rules
+    (λ _. IsTrue (takes_rules declared.kind))
 
--- A column's type has a length within the limits and a collation of the catalog, which has this many.
+-- A column's type has a length within the limits and a collation of the catalog, which has so many.
 abbrev pub IsLawfulType : ℕ → ColumnType → Type 0
 IsLawfulType collations BigInt = ⊤
 IsLawfulType collations (Char n coll) = (1 ≤ n) × (n ≤ longest_char) × (coll.0 < collations)
@@ -77,7 +80,8 @@ IsLawfulIndex columns index = IsSomeAnd (slice_get columns index.column)
 abbrev pub AreApart : List (List ℕ) → Type 0
 AreApart names = AllPairs (λ a b. a ≢ b) names
 
--- A table's parts are lawful and within the limits, and the names of its columns and indexes differ.
+-- A table's parts are lawful and within the limits, and the names of its columns and indexes
+-- differ.
 pub record IsLawfulTable (collations : ℕ) (table : TableDecl) : Type 0 where
   pub few_columns : length table.columns ≤ most_columns
   pub few_indexes : length table.indexes ≤ most_indexes

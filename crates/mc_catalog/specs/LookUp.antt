@@ -38,5 +38,7 @@ collation_set collations number = unwrap_or (set_at collations number) Binary
 -- A number is that of the usual collation of a set: of the one with the usual name, where it has
 -- that set, else of the binary one.
 abbrev pub IsUsual : List CollDecl → Charset → ℕ → Type 0
-IsUsual collations set number = MatchOption (number_of collations (usual_name set)) (IsBinOf set number)
-    (λ place. (set_at collations place ≡ Some set → number ≡ place) × (set_at collations place ≢ Some set → IsBinOf set number))
+IsUsual collations set number =
+    MatchOption (number_of collations (usual_name set)) (IsBinOf set number)
+    (λ place. (set_at collations place ≡ Some set → number ≡ place)
+    × (set_at collations place ≢ Some set → IsBinOf set number))

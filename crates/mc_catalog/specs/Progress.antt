@@ -36,15 +36,23 @@ pub record Progress : Type 0 where
 
 -- What no lines say.
 abbrev pub nothing_said : Progress
-nothing_said = record { collations = built_in_collations; earlier = []; last = None; connection = None; table_lines = [] }
+nothing_said = record {
+  collations = built_in_collations;
+  earlier = [];
+  last = None;
+  connection = None;
+  table_lines = [];
+}
 
 -- The tables, in order.
 abbrev pub tables_of : Progress → List TableDecl
 tables_of so_far = so_far.earlier ++ option_to_list so_far.last
 
 -- The collation that a line declares, where its set and its kind are known.
-unfoldable pub declared_of : List ℕ → Option Charset → Option Kind → List ℕ → Option (List ℕ) → Option CollDecl
-declared_of name (Some set) (Some kind) file rules = Some (record { name = name; charset = set; kind = kind; file = file; rules = rules })
+unfoldable pub declared_of : List ℕ → Option Charset → Option Kind → List ℕ → Option (List ℕ)
+    → Option CollDecl
+declared_of name (Some set) (Some kind) file rules =
+    Some (record { name = name; charset = set; kind = kind; file = file; rules = rules })
 declared_of name set kind file rules = None
 
 -- The number of a collation, as such.
@@ -60,7 +68,9 @@ type_of collations (VarChar n collation) = option_map (TypeVarChar n) (id_of col
 -- A table with one more column.
 unfoldable pub with_column : List CollDecl → List ℕ → ColumnForm → TableDecl → Option TableDecl
 with_column collations name form table =
-    option_map (λ type. record table { columns = table.columns ++ record { name = name; ty = type } ∷ [] }) (type_of collations form)
+    option_map
+    (λ type. record table { columns = table.columns ++ record { name = name; ty = type } ∷ [] })
+    (type_of collations form)
 
 -- The place of the column of this name.
 abbrev pub column_named : List ColumnDecl → List ℕ → Option ℕ
@@ -72,19 +82,26 @@ width_at columns place = option_and_then (λ column. width_of column.ty) (slice_
 
 -- The place of the column of this name, if it has a length.
 unfoldable pub indexed_column : List ColumnDecl → List ℕ → Option ℕ
-indexed_column columns name = option_and_then (λ place. if is_some (width_at columns place) then Some place else None) (column_named columns name)
+indexed_column columns name =
+    option_and_then (λ place. if is_some (width_at columns place) then Some place else None)
+    (column_named columns name)
 
 -- A table with one more index.
 unfoldable pub with_index : List ℕ → List ℕ → Option ℕ → TableDecl → Option TableDecl
 with_index name column prefix table =
-    option_map (λ place. record table { indexes = table.indexes ++ record { name = name; column = place; prefix = prefix } ∷ [] })
+    option_map (λ place. record table {
+      indexes = table.indexes ++ record { name = name; column = place; prefix = prefix } ∷ [];
+    })
     (indexed_column table.columns column)
 
 -- What some lines and the entry of the line of this number say.
 unfoldable pub with_entry : ℕ → Progress → Entry → Progress
 with_entry number so_far (Collation name set kind file rules) =
-    record so_far { collations = so_far.collations ++ option_to_list (declared_of name set kind file rules) }
-with_entry number so_far (Connection name) = record so_far { connection = id_of so_far.collations name }
+    record so_far {
+      collations = so_far.collations ++ option_to_list (declared_of name set kind file rules);
+    }
+with_entry number so_far (Connection name) =
+    record so_far { connection = id_of so_far.collations name }
 with_entry number so_far (Table name file) =
     record so_far {
       earlier = tables_of so_far;
@@ -117,6 +134,8 @@ catalog_of so_far = record {
 }
 
 -- Each table has its line, and the last table has a name of its own.
-pub record IsInStep (earlier : List TableDecl) (last : Option TableDecl) (table_lines : List ℕ) : Type 0 where
+pub record IsInStep (earlier : List TableDecl) (last : Option TableDecl) (table_lines : List ℕ)
+    : Type 0 where
   pub lined : length earlier + length (option_to_list last) ≤ length table_lines
-  pub apart : IfSome last (λ table. list_any (λ other. bytes_eq other.name table.name) earlier ≡ false)
+  pub apart : IfSome last
+      (λ table. list_any (λ other. bytes_eq other.name table.name) earlier ≡ false)

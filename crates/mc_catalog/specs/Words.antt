@@ -32,7 +32,8 @@ begins_with_digit (byte ∷ bytes) = is_ascii_digit byte
 -- Whether a field is a name: 1 to 64 letters, digits, `_` or `$`, the first of them no digit.
 abbrev pub is_name : List ℕ → Bool
 is_name field =
-    nat_le 1 (length field) && nat_le (length field) longest_name && not (begins_with_digit field) && list_all is_name_byte field
+    nat_le 1 (length field) && nat_le (length field) longest_name && not (begins_with_digit field)
+    && list_all is_name_byte field
 
 -- The name that a field is, in lower case.
 unfoldable pub field_name : List ℕ → Option (List ℕ)
@@ -46,7 +47,8 @@ begins_with_zero (byte ∷ bytes) = byte == digit_zero
 -- Whether a field is a decimal number: digits, with no 0 before another one.
 abbrev pub is_decimal : List ℕ → Bool
 is_decimal field =
-    nat_le 1 (length field) && not (begins_with_zero field && nat_le 2 (length field)) && list_all is_ascii_digit field
+    nat_le 1 (length field) && not (begins_with_zero field && nat_le 2 (length field)) && list_all
+    is_ascii_digit field
 
 -- The value of decimal digits.
 abbrev pub decimal_value : List ℕ → ℕ
@@ -54,7 +56,8 @@ decimal_value digits = fold (λ value digit. 10 * value + (digit - digit_zero)) 
 
 -- The number that a field is; one above 65535, which is above each length, counts as that.
 unfoldable pub decimal_of : List ℕ → Option ℕ
-decimal_of field = if is_decimal field then Some (min greatest_number (decimal_value field)) else None
+decimal_of field =
+    if is_decimal field then Some (min greatest_number (decimal_value field)) else None
 
 -- The length that a field is, from 1 to a limit.
 unfoldable pub length_of : ℕ → List ℕ → Option ℕ
@@ -66,8 +69,11 @@ length_of limit field = if_within (decimal_of field)
 
 -- The words of the kinds.
 abbrev pub kind_words : List (List ℕ × Kind)
-kind_words = (codes "table8", Table8) ∷ (codes "general", General) ∷ (codes "uca400", Uca400) ∷ (codes "uca520", Uca520)
-    ∷ (codes "uca900_ai_ci", Uca900AiCi) ∷ (codes "uca900_as_ci", Uca900AsCi) ∷ (codes "uca900_as_cs", Uca900AsCs) ∷ []
+kind_words =
+    (codes "table8", Table8) ∷ (codes "general", General) ∷ (codes "uca400", Uca400)
+    ∷ (codes "uca520", Uca520)
+    ∷ (codes "uca900_ai_ci", Uca900AiCi) ∷ (codes "uca900_as_ci", Uca900AsCi)
+    ∷ (codes "uca900_as_cs", Uca900AsCs) ∷ []
 
 -- The kind that a field names.
 unfoldable pub kind_of : List ℕ → Option Kind

@@ -113,7 +113,8 @@ impl CatalogBuilder {
         ensures ok { OnOk result (kind_of_fault self.old (entry_of body.now) ≡ None) }
         ensures added { OnOk result (self.new ≡ with_line self.old (number, body.now)) }
         ensures lawful { OnOk result (IsLawfulSoFar (catalog_of self.new)) }
-        ensures err { IfErr result (λ kind. IsCausedBy kind (kind_of_fault self.old (entry_of body.now))) }
+        ensures err { IfErr result (λ kind. IsCausedBy kind
+            (kind_of_fault self.old (entry_of body.now))) }
     {
         match read_entry(alloc, body)? {
             Some(entry) => self.add_entry(alloc, number, entry),
@@ -164,11 +165,13 @@ impl CatalogBuilder {
         file: Text,
         rules: Option<Text>,
     ) -> Result<(), CatalogFaultKind>
-        ensures ok { OnOk result (first_of (collation_tests self.old.collations name set kind) ≡ None) }
+        ensures ok { OnOk result (first_of (collation_tests self.old.collations name set kind)
+            ≡ None) }
         ensures added { OnOk result (self.new ≡ record self.old {
           collations = self.old.collations ++ option_to_list (declared_of name set kind file rules);
         }) }
-        ensures err { IfErr result (λ fault. IsCausedBy fault (first_of (collation_tests self.old.collations name set kind))) }
+        ensures err { IfErr result (λ fault. IsCausedBy fault
+            (first_of (collation_tests self.old.collations name set kind))) }
     {
         match self.set_and_kind(name.as_slice(), set, kind) {
             Ok((charset, kind)) => {
@@ -193,9 +196,11 @@ impl CatalogBuilder {
         set: Option<Charset>,
         kind: Option<Kind>,
     ) -> Result<(Charset, Kind), CatalogFaultKind>
-        ensures ok { OnOk result (first_of (collation_tests self.now.collations name.now set kind) ≡ None) }
+        ensures ok { OnOk result (first_of (collation_tests self.now.collations name.now set kind)
+            ≡ None) }
         ensures value { IfOk result (λ known. (set ≡ Some known.0) × (kind ≡ Some known.1)) }
-        ensures err { IfErr result (λ fault. IsCausedBy fault (first_of (collation_tests self.now.collations name.now set kind))) }
+        ensures err { IfErr result (λ fault. IsCausedBy fault
+            (first_of (collation_tests self.now.collations name.now set kind))) }
     {
         let Some(charset) = set else {
             return Err(CatalogFaultKind::UnknownCharset);
@@ -218,9 +223,12 @@ impl CatalogBuilder {
     /// Sets the connection collation.
     fn set_connection(&mut self, name: Text) -> Result<(), CatalogFaultKind>
         requires { length self.old.collations < 2 ^ 32 }
-        ensures ok { OnOk result (first_of (connection_tests self.old.collations name self.old.connection) ≡ None) }
-        ensures added { OnOk result (self.new ≡ record self.old { connection = id_of self.old.collations name }) }
-        ensures err { IfErr result (λ fault. IsCausedBy fault (first_of (connection_tests self.old.collations name self.old.connection))) }
+        ensures ok { OnOk result (first_of (connection_tests self.old.collations name
+            self.old.connection) ≡ None) }
+        ensures added { OnOk result (self.new ≡ record self.old
+            { connection = id_of self.old.collations name }) }
+        ensures err { IfErr result (λ fault. IsCausedBy fault
+            (first_of (connection_tests self.old.collations name self.old.connection))) }
     {
         let Some(id) = id_of(&self.collations, name.as_slice()) else {
             return Err(CatalogFaultKind::UnknownCollation);
@@ -246,7 +254,8 @@ impl CatalogBuilder {
           last = Some (record { name = name; file = file; columns = []; indexes = [] });
           table_lines = self.old.table_lines ++ number ∷ [];
         }) }
-        ensures err { IfErr result (λ fault. IsCausedBy fault (first_of (table_tests (tables_of self.old) name))) }
+        ensures err { IfErr result (λ fault. IsCausedBy fault
+            (first_of (table_tests (tables_of self.old) name))) }
     {
         match self.begin_table(alloc, number, name.as_slice()) {
             Ok(()) => {
@@ -257,7 +266,8 @@ impl CatalogBuilder {
         }
     }
 
-    /// Ends the last table, and notes the line of the next one, where one of this name can be added.
+    /// Ends the last table, and notes the line of the next one, where one of this name can be
+    /// added.
     fn begin_table(
         &mut self,
         alloc: Global,
@@ -271,8 +281,10 @@ impl CatalogBuilder {
           table_lines = self.old.table_lines ++ number ∷ [];
         }) }
         ensures lined { OnOk result (length self.new.earlier < length self.new.table_lines) }
-        ensures apart { OnOk result (list_any (λ table. bytes_eq table.name name.now) self.new.earlier ≡ false) }
-        ensures err { IfErr result (λ fault. IsCausedBy fault (first_of (table_tests (tables_of self.old) name.now))) }
+        ensures apart { OnOk result (list_any (λ table. bytes_eq table.name name.now)
+            self.new.earlier ≡ false) }
+        ensures err { IfErr result (λ fault. IsCausedBy fault
+            (first_of (table_tests (tables_of self.old) name.now))) }
     {
         self.close_table(alloc)?;
         if self.earlier.has(name) {
@@ -287,7 +299,8 @@ impl CatalogBuilder {
 
     /// Ends the last table, which then is an earlier one.
     fn close_table(&mut self, alloc: Global) -> Result<(), NoMemory>
-        ensures { OnOk result (self.new ≡ record self.old { earlier = tables_of self.old; last = None }) }
+        ensures { OnOk result (self.new ≡ record self.old
+            { earlier = tables_of self.old; last = None }) }
     {
         match self.last.take() {
             Some(table) => {
@@ -306,7 +319,8 @@ impl CatalogBuilder {
         form: ColumnForm,
     ) -> Result<(), CatalogFaultKind>
         requires { length self.old.collations < 2 ^ 32 }
-        ensures ok { OnOk result (first_of (tests_in (column_tests self.old.collations name form) self.old.last) ≡ None) }
+        ensures ok { OnOk result (first_of (tests_in (column_tests self.old.collations name form)
+            self.old.last) ≡ None) }
         ensures added { OnOk result (self.new ≡ record self.old {
           last = option_and_then (with_column self.old.collations name form) self.old.last;
         }) }
@@ -328,11 +342,13 @@ impl CatalogBuilder {
         prefix: Option<u32>,
     ) -> Result<(), CatalogFaultKind>
         requires { IfSome self.old.last (λ table. length table.columns < 2 ^ 32) }
-        ensures ok { OnOk result (first_of (tests_in (index_tests name column prefix) self.old.last) ≡ None) }
+        ensures ok { OnOk result (first_of (tests_in (index_tests name column prefix) self.old.last)
+            ≡ None) }
         ensures added { OnOk result (self.new ≡ record self.old {
           last = option_and_then (with_index name column prefix) self.old.last;
         }) }
-        ensures err { IfErr result (λ fault. IsCausedBy fault (first_of (tests_in (index_tests name column prefix) self.old.last))) }
+        ensures err { IfErr result (λ fault. IsCausedBy fault
+            (first_of (tests_in (index_tests name column prefix) self.old.last))) }
     {
         let Some(table) = &mut self.last else {
             return Err(CatalogFaultKind::BadLine);
@@ -343,7 +359,8 @@ impl CatalogBuilder {
     /// Ends the last table, or tells the line of the first table without a column.
     pub(crate) fn end(&mut self, alloc: Global) -> Result<(), CatalogFault>
         ensures ok { OnOk result (bare_place (tables_of self.old) ≡ None) }
-        ensures ended { OnOk result (self.new ≡ record self.old { earlier = tables_of self.old; last = None }) }
+        ensures ended { OnOk result (self.new ≡ record self.old
+            { earlier = tables_of self.old; last = None }) }
         ensures err { IfErr result (λ fault. IsEndFault self.old fault.kind fault.line) }
     {
         self.close_table(alloc)?;

@@ -66,7 +66,8 @@ pub enum ColumnType {
 }
 
 impl ColumnType {
-    /// The greatest length of a value, in characters, or bytes of a binary string; a bigint has none.
+    /// The greatest length of a value, in characters, or bytes of a binary string; a bigint has
+    /// none.
     pub(crate) fn width(self) -> Option<u32>
         ensures { result ≡ width_of self }
     {

@@ -105,7 +105,8 @@ fn declared_entry(
     rest: &[u8],
 ) -> Result<Option<Entry>, NoMemory>
     ensures value { IfOk result (λ entry. entry ≡ option_and_then
-        (λ rules. option_map (λ name. Entry.Collation name (set_named set.now) kind file.now rules) (field_name name.now))
+        (λ rules. option_map (λ name. Entry.Collation name (set_named set.now) kind file.now rules)
+        (field_name name.now))
         (rules_part kind (fields_of rest.now))) }
     ensures formed { IfOk result (λ entry. IfSome entry IsFormed) }
 {
@@ -132,7 +133,8 @@ fn rules_part(
     body: &[u8],
 ) -> Result<Option<Option<Text>>, NoMemory>
     ensures value { IfOk result (λ rules. rules ≡ rules_part kind (fields_of body.now)) }
-    ensures formed { IfOk result (λ rules. IfSome rules (λ file. IfSome file (λ _. IsTrue (may_have_rules kind)))) }
+    ensures formed { IfOk result (λ rules. IfSome rules
+        (λ file. IfSome file (λ _. IsTrue (may_have_rules kind)))) }
 {
     let Some((word, rest)) = next_field(body) else {
         return Ok(Some(None));
@@ -305,7 +307,8 @@ fn char_form(n: &[u8], collation: Text) -> Option<ColumnForm>
 
 /// `varchar` of a length, 1 to 4,096.
 fn varchar_form(n: &[u8], collation: Text) -> Option<ColumnForm>
-    ensures value { result ≡ option_map (λ n. ColumnForm.VarChar n collation) (length_of 4096 n.now) }
+    ensures value { result
+        ≡ option_map (λ n. ColumnForm.VarChar n collation) (length_of 4096 n.now) }
     ensures formed { IfSome result IsFormedColumn }
 {
     let n = read_length(4096, n)?;

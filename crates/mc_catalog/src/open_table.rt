@@ -78,9 +78,12 @@ impl OpenTable {
         form: ColumnForm,
     ) -> Result<(), CatalogFaultKind>
         requires { length collations.now < 2 ^ 32 }
-        ensures ok { OnOk result (first_of (column_tests collations.now name form self.old) ≡ None) }
-        ensures added { OnOk result (with_column collations.now name form self.old ≡ Some self.new) }
-        ensures err { IfErr result (λ fault. IsCausedBy fault (first_of (column_tests collations.now name form self.old))) }
+        ensures ok { OnOk result
+            (first_of (column_tests collations.now name form self.old) ≡ None) }
+        ensures added { OnOk result
+            (with_column collations.now name form self.old ≡ Some self.new) }
+        ensures err { IfErr result (λ fault. IsCausedBy fault
+            (first_of (column_tests collations.now name form self.old))) }
         ensures named { self.new.name ≡ self.old.name }
     {
         let ty = self.column_type(collations, name.as_slice(), &form);
@@ -102,9 +105,11 @@ impl OpenTable {
         form: &ColumnForm,
     ) -> Result<ColumnType, CatalogFaultKind>
         requires { length collations.now < 2 ^ 32 }
-        ensures ok { OnOk result (first_of (column_tests collations.now name.now form.now self.now) ≡ None) }
+        ensures ok { OnOk result (first_of (column_tests collations.now name.now form.now self.now)
+            ≡ None) }
         ensures value { IfOk result (λ ty. type_of collations.now form.now ≡ Some ty) }
-        ensures err { IfErr result (λ fault. IsCausedBy fault (first_of (column_tests collations.now name.now form.now self.now))) }
+        ensures err { IfErr result (λ fault. IsCausedBy fault
+            (first_of (column_tests collations.now name.now form.now self.now))) }
     {
         let Some(ty) = type_of(collations, form) else {
             return Err(CatalogFaultKind::UnknownCollation);
@@ -130,7 +135,8 @@ impl OpenTable {
         requires { length self.old.columns < 2 ^ 32 }
         ensures ok { OnOk result (first_of (index_tests name column prefix self.old) ≡ None) }
         ensures added { OnOk result (with_index name column prefix self.old ≡ Some self.new) }
-        ensures err { IfErr result (λ fault. IsCausedBy fault (first_of (index_tests name column prefix self.old))) }
+        ensures err { IfErr result (λ fault. IsCausedBy fault
+            (first_of (index_tests name column prefix self.old))) }
         ensures named { self.new.name ≡ self.old.name }
     {
         match self.indexed_place(name.as_slice(), column.as_slice(), prefix) {
@@ -155,10 +161,13 @@ impl OpenTable {
         column: &[u8],
         prefix: Option<u32>,
     ) -> Result<usize, CatalogFaultKind>
-        ensures ok { OnOk result (first_of (index_tests name.now column.now prefix self.now) ≡ None) }
-        ensures value { IfOk result (λ place. indexed_column self.now.columns column.now ≡ Some place) }
+        ensures ok { OnOk result
+            (first_of (index_tests name.now column.now prefix self.now) ≡ None) }
+        ensures value { IfOk result
+            (λ place. indexed_column self.now.columns column.now ≡ Some place) }
         ensures within { IfOk result (λ place. place < length self.now.columns) }
-        ensures err { IfErr result (λ fault. IsCausedBy fault (first_of (index_tests name.now column.now prefix self.now))) }
+        ensures err { IfErr result (λ fault. IsCausedBy fault
+            (first_of (index_tests name.now column.now prefix self.now))) }
     {
         let Some(place) = self.columns.place_of(column) else {
             return Err(CatalogFaultKind::UnknownColumn);

@@ -56,7 +56,8 @@ fn add_bin(
     name: &[u8],
     charset: Charset,
 ) -> Result<(), NoMemory>
-    ensures ok { OnOk result (collations.new ≡ collations.old ++ built_in_collation name.now charset ∷ []) }
+    ensures ok { OnOk result (collations.new ≡ collations.old ++ built_in_collation name.now charset
+        ∷ []) }
     ensures err { OnErr result (collations.new ≡ collations.old) }
 {
     let collation = CollDecl {

@@ -63,7 +63,8 @@ fn read_all(builder: &mut CatalogBuilder, alloc: Global, text: &[u8]) -> Result<
     requires fresh { builder.old ≡ nothing_said }
     ensures accepted { OnOk result (IsAccepted (lines_of text.now)) }
     ensures ended { OnOk result (builder.new.last ≡ None) }
-    ensures value { OnOk result (catalog_of builder.new ≡ catalog_of (said_by (lines_of text.now))) }
+    ensures value { OnOk result
+        (catalog_of builder.new ≡ catalog_of (said_by (lines_of text.now))) }
     ensures lawful { OnOk result (IsLawfulSoFar (catalog_of builder.new)) }
     ensures refused { IfErr result (λ fault. IsRefused (lines_of text.now) fault.kind fault.line) }
 {

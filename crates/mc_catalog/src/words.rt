@@ -68,7 +68,8 @@ fn lower_case(alloc: Global, field: &[u8]) -> Result<Text, NoMemory>
     Ok(text)
 }
 
-/// The decimal number that a field is, at most 65,535; None where it is none, or has a leading zero.
+/// The decimal number that a field is, at most 65,535; None where it is none, or has a leading
+/// zero.
 #[tactic(auto, unfolding(crate::specs::Words::decimal_of))]
 pub(crate) fn read_number(field: &[u8]) -> Option<u32>
     ensures { result ≡ decimal_of field.now }

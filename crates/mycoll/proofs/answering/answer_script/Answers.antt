@@ -18,7 +18,12 @@ loop-statement-init g c = record {
 pub returns-in_err-said-clause-told : goal.returns-in_err-said-clause-told
 returns-in_err-said-clause-told g c =
     let p = err_from_is_err_and c.from_residual.result c.from_residual.ensures.1 in
-    rw (p.1, p.2) (stopped_before _ _ _ _ _ _ _ _ c.loop-statement.invariant.so_far)
+    let w = world_of c.args.catalog.now (g.B.Book.meaning c.args.book.now) in
+    let rest = statements c.args.script.now c.loop-statement.from in
+    let before = g.S.Sink.written c.args.out.now in
+    let now = g.S.Sink.written c.loop-statement.out in
+    rw (p.1, p.2) (stopped_before w (state_of c.args.session.now) c.args.script.now rest (state_of c.loop-statement.session) c.loop-statement.refused before now
+    c.loop-statement.invariant.so_far)
 
 pub returns-in_err-refused-clause-told : goal.returns-in_err-refused-clause-told
 returns-in_err-refused-clause-told g c =
