@@ -1,4 +1,4 @@
-pub mod Forests
 pub mod Ahead
+pub mod Forests
 pub mod SameReadings
 pub mod Search

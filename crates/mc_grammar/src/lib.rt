@@ -1,6 +1,6 @@
 //! Grammars as data, their readings, and what makes a reading the only one: the definitions that a
 //! language is described with, and the law that serves each of them. In reading order: `Grammar`,
-//! `Reading` and `Decides` of `specs/`, then [`readings_are_unique`].
+//! `Reading`, `Ahead` and `Apart` of `specs/`, then [`readings_are_unique`].
 #![tactic(auto)]
 
 mod unique;

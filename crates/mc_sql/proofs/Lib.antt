@@ -1,5 +1,6 @@
 pub mod Apart
-pub mod Tables
-pub mod Numbers
 pub mod Decided
+pub mod Numbers
 pub mod Sound
+pub mod Spellings
+pub mod Tables
