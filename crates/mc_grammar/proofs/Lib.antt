@@ -1,4 +1,14 @@
 pub mod Ahead
+pub mod Completing
+pub mod Failing
 pub mod Forests
+pub mod Inside
+pub mod Links
+pub mod Marks
+pub mod Paths
 pub mod SameReadings
 pub mod Search
+pub mod Seeing
+pub mod Steps
+pub mod Values
+pub mod Ways

@@ -2,3 +2,8 @@ pub mod Grammar
 pub mod Reading
 pub mod Ahead
 pub mod Apart
+pub mod Language
+pub mod Descent
+pub mod Places
+pub mod Completions
+pub mod Chains
