@@ -7,3 +7,6 @@ pub mod Descent
 pub mod Places
 pub mod Completions
 pub mod Chains
+pub mod Nest
+pub mod Room
+pub mod Goes
