@@ -1,7 +1,7 @@
 -- Every list of symbols is read from its completion.
-use Rattle.std.proofs.Common.{◌≡◌, List, [], ◌∷◌, ◌++◌, refl, ap}
-use Rattle.mc_grammar.specs.Grammar.{Grammar, Symbol, one, rule}
-use Rattle.mc_grammar.specs.Reading.{Forest, bare, leaf, node, tokens_of}
+use Rattle.std.proofs.Common.{List, [], ◌∷◌, ap}
+use Rattle.mc_grammar.specs.Grammar.{Symbol, one, rule}
+use Rattle.mc_grammar.specs.Reading.{leaf}
 use Rattle.mc_grammar.specs.Language.{Language, Reads}
 use Rattle.mc_grammar.specs.Completions.{Completions, completion, Complete}
 use Rattle.mc_grammar.proofs.Steps.{reads_nothing, reads_append}

@@ -1,20 +1,17 @@
 -- Failing inside the alternatives of a rule: no place wants the next token, or each wants it free.
-use Rattle.std.proofs.Common.{◌≡◌, ◌⊎◌, inl, inr, ℕ, zero, suc, ◌+◌, ◌-◌, ◌≤◌, max, Bool, true, false, not, List, [], ◌∷◌, ◌++◌, length, refl, sym, ap, ◌∙◌, append_assoc, append-nil, map, IsTrue, ◌&&◌, subst, arith, Option, Some, None}
-use Rattle.std.proofs.lemmas.List.{map-append}
-use Rattle.mc_grammar.specs.Grammar.{Grammar, Symbol, one, rule}
-use Rattle.mc_grammar.specs.Reading.{Forest, bare, leaf, node, tokens_of, IsOneOf, Fits}
-use Rattle.mc_grammar.specs.Ahead.{Ahead, Tables, BeginsWhole, MeetsWhole, every, any_of, is_part, starts, is_followed}
-use Rattle.mc_grammar.specs.Language.{Language, values_of, Reads, Means, IsSound}
-use Rattle.mc_grammar.specs.Descent.{Allows, Stands, Alike, Leads, Stuck, Deep}
-use Rattle.mc_grammar.specs.Places.{Place, behind_next, before, entries, passes, all_pass, is_out, all_out, kept, is_next, is_barred, Sees, ReadsOne, IsReached, EachReached, Inside, Done, Fails, IsTooDeep}
+use Rattle.std.proofs.Common.{◌≡◌, inl, inr, ℕ, ◌+◌, ◌≤◌, Bool, not, List, [], ◌∷◌, ◌++◌, length, refl, sym, ap, ◌∙◌, append_assoc, append-nil, map, IsTrue, subst, Option}
+use Rattle.mc_grammar.specs.Grammar.{Symbol, one, rule}
+use Rattle.mc_grammar.specs.Reading.{leaf, IsOneOf}
+use Rattle.mc_grammar.specs.Ahead.{Ahead, every}
+use Rattle.mc_grammar.specs.Language.{Language, Reads, IsSound}
+use Rattle.mc_grammar.specs.Descent.{Allows, Alike}
+use Rattle.mc_grammar.specs.Places.{Place, before, passes, all_pass, is_out, all_out, is_barred, Sees, ReadsOne, IsReached, EachReached, Inside, Fails, IsTooDeep}
 use Rattle.mc_grammar.specs.Completions.{Completions, completion, Complete}
-use Rattle.mc_grammar.proofs.Ahead.{both, chosen, begins_as}
-use Rattle.mc_grammar.proofs.Forests.{beside, tokens_of-beside, Fits-beside}
-use Rattle.mc_grammar.proofs.Steps.{reads_nothing, reads_append, Parts, reads_parts, Opened, reads_opened, reads_closed, reads_nothing_alone, reads_token, reads_taken, Taken, means_reads}
+use Rattle.mc_grammar.proofs.Ahead.{both, chosen}
+use Rattle.mc_grammar.proofs.Steps.{reads_append, reads_closed, reads_token, means_reads}
 use Rattle.mc_grammar.proofs.Marks.{alike_free, alike_bound, alike_shorter, reads_freed}
-use Rattle.mc_grammar.proofs.Paths.{then_leads, then_stuck, then_deep, frame, frame_stuck, frame_deep, allows_more, reads_at, marked_twice}
+use Rattle.mc_grammar.proofs.Paths.{allows_more, reads_at, marked_twice}
 use Rattle.mc_grammar.proofs.Completing.{completes}
-use Rattle.mc_grammar.proofs.Values.{means_append, means_token, means_node, means_at}
 use Rattle.mc_grammar.proofs.Inside.{negated_false, out_reads_nothing, passed}
 
 module _ {K R A S T V : Type 0} (l : Language K R A S T V) where
@@ -293,3 +290,52 @@ module _ {K R A S T V : Type 0} (l : Language K R A S T V) where
       different e = cc
   too_deep_behind d c f after after' n r q place places (x ∷ xs) vs tokens front rest v p e h o lt =
       too_deep_within d c f after after' n r q (place ∷ places) x xs vs tokens front rest v p e h o lt
+
+  -- The fronts that they fail with.
+  pub stuck_here_front : (d : IsSound l) (c : Completions K R T) (f : Complete l c)
+      (after : Ahead K) (n : ℕ) (r : R)
+      (place : Place K R A) (places : List (Place K R A)) (vs : List V) (tokens front rest : List S)
+      (may : Option K → Bool)
+      → (p : Inside l after n r (place ∷ places) vs tokens front rest) → (s : Sees l 1 rest may)
+      → (lt : n ≤ 1) → (h : IsTrue (all_out l may after (place ∷ places)))
+      → (stuck_here d c f after n r place places vs tokens front rest may p s lt h).front ≡ front
+  unfolding stuck_here
+  stuck_here_front d c f after n r place places vs tokens front rest may p s lt h = refl
+
+  pub stuck_within_front : (d : IsSound l) (c : Completions K R T) (f : Complete l c)
+      (after after' : Ahead K) (n : ℕ) (r q : R)
+      (places : List (Place K R A)) (left : Place K R A) (lefts : List (Place K R A))
+      (vs : List V) (tokens front rest v : List S)
+      → (p : Inside l after n r places vs tokens front rest)
+      → (e : places ≡ before (rule q) (left ∷ lefts))
+      → (h : IsTrue (all_pass l after (left ∷ lefts) after'))
+      → (o : Fails l after' q rest v) → (lt : n ≤ length o.front + 1)
+      → (stuck_within d c f after after' n r q places left lefts vs tokens front rest v p e h o
+      lt).front ≡ front ++ o.front
+  unfolding stuck_within
+  stuck_within_front d c f after after' n r q places left lefts vs tokens front rest v p e h o lt =
+      refl
+
+  pub too_deep_here_front : (d : IsSound l) (c : Completions K R T) (f : Complete l c)
+      (after : Ahead K) (n : ℕ) (r : R)
+      (place : Place K R A) (places : List (Place K R A)) (vs : List V) (tokens front : List S)
+      (s : S) (rest : List S)
+      → (p : Inside l after n r (place ∷ places) vs tokens front (s ∷ rest)) → (lt : n ≤ 1)
+      → (h : IsTrue (every (λ p. is_barred l s p.left) (place ∷ places)))
+      → (too_deep_here d c f after n r place places vs tokens front s rest p lt h).front ≡ front
+  unfolding too_deep_here
+  too_deep_here_front d c f after n r place places vs tokens front s rest p lt h = refl
+
+  pub too_deep_within_front : (d : IsSound l) (c : Completions K R T) (f : Complete l c)
+      (after after' : Ahead K) (n : ℕ) (r q : R)
+      (places : List (Place K R A)) (left : Place K R A) (lefts : List (Place K R A))
+      (vs : List V) (tokens front rest v : List S)
+      → (p : Inside l after n r places vs tokens front rest)
+      → (e : places ≡ before (rule q) (left ∷ lefts))
+      → (h : IsTrue (all_pass l after (left ∷ lefts) after'))
+      → (o : IsTooDeep l after' q rest v) → (lt : n ≤ length o.front + 1)
+      → (too_deep_within d c f after after' n r q places left lefts vs tokens front rest v p e h o
+      lt).front ≡ front ++ o.front
+  unfolding too_deep_within
+  too_deep_within_front d c f after after' n r q places left lefts vs tokens front rest v p e h o lt
+      = refl

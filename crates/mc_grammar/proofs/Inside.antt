@@ -1,20 +1,16 @@
 -- Going through the alternatives of a rule: entering, looking, taking a token, reading a rule,
 -- leaving.
-use Rattle.std.proofs.Common.{◌≡◌, ◌⊎◌, inl, inr, ℕ, zero, suc, ◌+◌, ◌-◌, ◌≤◌, max, Bool, true, false, not, List, [], ◌∷◌, ◌++◌, length, refl, sym, ap, ◌∙◌, append_assoc, append-nil, map, IsTrue, ◌&&◌, subst, arith, Option, Some, None}
-use Rattle.std.proofs.lemmas.List.{map-append}
-use Rattle.mc_grammar.specs.Grammar.{Grammar, Symbol, one, rule}
-use Rattle.mc_grammar.specs.Reading.{Forest, bare, leaf, node, tokens_of, IsOneOf, Fits}
-use Rattle.mc_grammar.specs.Ahead.{Ahead, Tables, BeginsWhole, MeetsWhole, every, any_of, is_part, starts, is_followed}
-use Rattle.mc_grammar.specs.Language.{Language, values_of, Reads, Means, IsSound}
-use Rattle.mc_grammar.specs.Descent.{Allows, Stands, Alike, Leads, Stuck, Deep}
-use Rattle.mc_grammar.specs.Places.{Place, behind_next, before, entries, passes, all_pass, is_out, all_out, kept, is_next, is_barred, Sees, ReadsOne, IsReached, EachReached, Inside, Done, Fails, IsTooDeep}
-use Rattle.mc_grammar.specs.Completions.{Completions, completion, Complete}
+use Rattle.std.proofs.Common.{◌≡◌, ◌⊎◌, inl, inr, ℕ, ◌+◌, ◌-◌, ◌≤◌, max, Bool, true, false, not, List, [], ◌∷◌, ◌++◌, length, refl, sym, ap, ◌∙◌, append_assoc, append-nil, map, IsTrue, subst, arith, Option}
+use Rattle.mc_grammar.specs.Grammar.{Symbol, one, rule}
+use Rattle.mc_grammar.specs.Reading.{bare, IsOneOf}
+use Rattle.mc_grammar.specs.Ahead.{Ahead, BeginsWhole, MeetsWhole, every, any_of, starts, is_followed}
+use Rattle.mc_grammar.specs.Language.{Language, Reads, Means, IsSound}
+use Rattle.mc_grammar.specs.Descent.{Allows, Alike, Leads}
+use Rattle.mc_grammar.specs.Places.{Place, behind_next, before, entries, passes, all_pass, is_out, kept, is_next, Sees, ReadsOne, IsReached, EachReached, Inside, Done}
 use Rattle.mc_grammar.proofs.Ahead.{both, chosen, begins_as}
-use Rattle.mc_grammar.proofs.Forests.{beside, tokens_of-beside, Fits-beside}
-use Rattle.mc_grammar.proofs.Steps.{reads_nothing, reads_append, Parts, reads_parts, Opened, reads_opened, reads_closed, reads_nothing_alone, reads_token, reads_taken, Taken, means_reads}
-use Rattle.mc_grammar.proofs.Marks.{alike_free, alike_bound, alike_shorter, reads_freed}
-use Rattle.mc_grammar.proofs.Paths.{then_leads, then_stuck, then_deep, frame, frame_stuck, frame_deep, allows_more, reads_at, marked_twice}
-use Rattle.mc_grammar.proofs.Completing.{completes}
+use Rattle.mc_grammar.proofs.Steps.{reads_append, Parts, reads_parts, Opened, reads_opened, reads_closed, reads_token, means_reads}
+use Rattle.mc_grammar.proofs.Marks.{alike_free, alike_shorter}
+use Rattle.mc_grammar.proofs.Paths.{allows_more, reads_at, marked_twice}
 use Rattle.mc_grammar.proofs.Values.{means_append, means_token, means_node, means_at}
 
 pub negated_false : (b : Bool) → IsTrue (not b) → IsTrue b → ⊥
@@ -136,6 +132,17 @@ module _ {K R A S T V : Type 0} (l : Language K R A S T V) where
     takes = λ ks w a same q. kept_reads d after m rest may ks w s a
         (alike_shorter l m (max n m) w rest (omega arith) same) places
         (p.takes ks w a (alike_shorter l n (max n m) w rest (omega arith) same) q);
+  }
+
+  -- A look at more tokens, which tells nothing new.
+  pub widened : (after : Ahead K) (n m : ℕ) (r : R) (places : List (Place K R A)) (vs : List V)
+      (tokens front rest : List S)
+      → Inside l after n r places vs tokens front rest → n ≤ m
+      → Inside l after m r places vs tokens front rest
+  widened after n m r places vs tokens front rest p lt = record {
+    split = p.split;
+    reached = p.reached;
+    takes = λ ks w a same q. p.takes ks w a (alike_shorter l n m w rest lt same) q;
   }
 
   -- Taking a token of which each place wants a class.
@@ -302,3 +309,11 @@ module _ {K R A S T V : Type 0} (l : Language K R A S T V) where
         (sym (p.reached.0.split ∙ append-nil p.reached.0.done)) p.reached.0.means);
     leads = leads_inside after n r a [] vs tokens front rest p;
   }
+
+  -- The front that it leaves with.
+  pub leave_front : (d : IsSound l) (after : Ahead K) (n : ℕ) (r : R) (a : A)
+      (vs : List V) (tokens front rest : List S)
+      → (p : Inside l after n r (record { alternative = a; left = [] } ∷ []) vs tokens front rest)
+      → (leave d after n r a vs tokens front rest p).front ≡ front
+  unfolding leave
+  leave_front d after n r a vs tokens front rest p = refl

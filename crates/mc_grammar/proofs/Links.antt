@@ -1,12 +1,12 @@
 -- Chains: starting, one more link, ending.
-use Rattle.std.proofs.Common.{◌≡◌, inl, inr, ℕ, ◌+◌, ◌≤◌, max, List, [], ◌∷◌, ◌++◌, length, refl, sym, ap, ◌∙◌, append_assoc, append-nil, map, subst, arith}
-use Rattle.std.proofs.lemmas.List.{map-append, length-append}
-use Rattle.mc_grammar.specs.Grammar.{Grammar, Symbol, one, rule}
+use Rattle.std.proofs.Common.{◌≡◌, ℕ, ◌+◌, ◌≤◌, List, [], ◌∷◌, ◌++◌, length, refl, sym, ap, ◌∙◌, append_assoc, append-nil, subst, arith}
+use Rattle.mc_grammar.specs.Grammar.{Symbol, rule}
 use Rattle.mc_grammar.specs.Ahead.{Ahead}
-use Rattle.mc_grammar.specs.Language.{Language, Reads, Means, IsSound}
-use Rattle.mc_grammar.specs.Descent.{Allows, Alike, Leads, Stuck, Deep}
-use Rattle.mc_grammar.specs.Places.{Place, Inside, Done, Fails, IsTooDeep}
+use Rattle.mc_grammar.specs.Language.{Language, Means, IsSound}
+use Rattle.mc_grammar.specs.Descent.{Leads}
+use Rattle.mc_grammar.specs.Places.{Inside, Done, Fails, IsTooDeep}
 use Rattle.mc_grammar.specs.Chains.{Chain}
+use Rattle.mc_grammar.proofs.Marks.{alike_shorter}
 use Rattle.mc_grammar.proofs.Paths.{stay, then_leads, then_stuck, then_deep}
 use Rattle.mc_grammar.proofs.Values.{means_append, means_node, means_at}
 use Rattle.mc_grammar.proofs.Inside.{leads_inside}
@@ -24,6 +24,19 @@ module _ {K R A S T V X : Type 0} (l : Language K R A S T V) where
     split = refl;
     leads = stay l after (rule more ∷ []) tokens;
     collects = λ later others p. p;
+  }
+
+  pub chain_widen : (after : Ahead K) (n m : ℕ) (more : R) (value : List X → V)
+      (links : List X) (tokens front rest : List S)
+      → Chain l after n more value links tokens front rest → n ≤ m
+      → Chain l after m more value links tokens front rest
+  chain_widen after n m more value links tokens front rest p lt = record {
+    split = p.split;
+    leads = record {
+      takes = λ ks w a same q. p.leads.takes ks w a (alike_shorter l n m w rest lt same) q;
+      gives = p.leads.gives;
+    };
+    collects = p.collects;
   }
 
   -- One more link: what an alternative reads before it begins again.

@@ -1,10 +1,9 @@
 -- Marks of tokens: a free token does what a bound one does.
-use Rattle.std.proofs.Common.{◌≡◌, ◌⊎◌, inl, inr, ℕ, zero, suc, ◌+◌, ◌≤◌, List, [], ◌∷◌, ◌++◌, length, refl, sym, ap, ◌∙◌, append_assoc, map, IsTrue, subst, arith}
-use Rattle.mc_grammar.specs.Grammar.{Grammar, Symbol, one, rule}
-use Rattle.mc_grammar.specs.Reading.{Forest, bare, leaf, node, tokens_of, IsOneOf, Fits}
+use Rattle.std.proofs.Common.{◌≡◌, inl, inr, ℕ, zero, suc, ◌+◌, ◌≤◌, List, [], ◌∷◌, ◌++◌, length, refl, sym, ap, ◌∙◌, map, IsTrue, subst, arith}
+use Rattle.mc_grammar.specs.Grammar.{Symbol, one, rule}
+use Rattle.mc_grammar.specs.Reading.{Forest, bare, leaf, node, tokens_of, Fits}
 use Rattle.mc_grammar.specs.Language.{Language, Reads, IsSound}
-use Rattle.mc_grammar.specs.Descent.{Stands, Alike}
-use Rattle.mc_grammar.proofs.Steps.{reads_append}
+use Rattle.mc_grammar.specs.Descent.{Alike}
 
 module _ {K R A S T V : Type 0} (l : Language K R A S T V) where
   pub alike_shorter : (n m : ℕ) (w : List T) (v : List S) → n ≤ m → Alike l m w v → Alike l n w v

@@ -1,14 +1,14 @@
 -- Paths of a descent: one after another, and before symbols that stay as they are.
-use Rattle.std.proofs.Common.{◌≡◌, ◌⊎◌, inl, inr, ℕ, zero, suc, ◌+◌, ◌≤◌, List, [], ◌∷◌, ◌++◌, length, refl, sym, ap, ◌∙◌, append_assoc, append-nil, map, IsTrue, ◌&&◌, subst, arith, Option, Some, None}
+use Rattle.std.proofs.Common.{◌≡◌, inl, inr, ℕ, ◌+◌, ◌≤◌, List, [], ◌∷◌, ◌++◌, length, refl, sym, ap, ◌∙◌, append_assoc, append-nil, map, IsTrue, subst, None}
 use Rattle.std.proofs.lemmas.List.{map-append}
-use Rattle.mc_grammar.specs.Grammar.{Grammar, Symbol, one, rule}
-use Rattle.mc_grammar.specs.Ahead.{Ahead, Tables, BeginsWhole, is_part, starts, is_followed}
+use Rattle.mc_grammar.specs.Grammar.{Symbol, rule}
+use Rattle.mc_grammar.specs.Ahead.{Ahead, BeginsWhole, is_part, starts, is_followed}
 use Rattle.mc_grammar.specs.Language.{Language, Reads, IsSound}
-use Rattle.mc_grammar.specs.Descent.{Allows, Stands, Alike, Leads, Stuck, Deep}
+use Rattle.mc_grammar.specs.Descent.{Allows, Alike, Leads, Stuck, Deep}
 use Rattle.mc_grammar.specs.Places.{passes}
 use Rattle.mc_grammar.proofs.Ahead.{both, begins_part, begins_as}
-use Rattle.mc_grammar.proofs.Steps.{reads_nothing, reads_append, Parts, reads_parts, reads_nothing_alone, reads_token}
-use Rattle.mc_grammar.proofs.Marks.{alike_free, alike_bound, alike_shorter, reads_freed}
+use Rattle.mc_grammar.proofs.Steps.{reads_append, Parts, reads_parts, reads_nothing_alone}
+use Rattle.mc_grammar.proofs.Marks.{alike_free, alike_bound, reads_freed}
 
 module _ {K R A S T V : Type 0} (l : Language K R A S T V) where
   pub reads_at : (ss zz : List (Symbol K R)) (ts us : List T) → ss ≡ zz → ts ≡ us → Reads l ss ts

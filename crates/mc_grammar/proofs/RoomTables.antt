@@ -1,11 +1,11 @@
 -- The tables of a grammar with room are right where those of the grammar are.
-use Rattle.std.proofs.Common.{◌≡◌, ◌⊎◌, inl, inr, ℕ, zero, suc, Bool, true, false, not, ◌&&◌, ◌||◌, List, [], ◌∷◌, ◌++◌, refl, sym, ap, ◌∙◌, map, IsTrue, subst, Option, Some, None}
+use Rattle.std.proofs.Common.{◌≡◌, inl, inr, ℕ, Bool, true, false, not, ◌&&◌, ◌||◌, List, [], ◌∷◌, ◌++◌, refl, sym, ap, ◌∙◌, map, IsTrue, subst, Option, Some, None}
 use Rattle.std.specs.Option.{option_map}
 use Rattle.mc_grammar.specs.Grammar.{Grammar, Symbol, one, rule}
 use Rattle.mc_grammar.specs.Ahead.{Ahead, Tables, Meets, Begins, StandsBehind, MeetsWhole, every, any_of, is_within_next, is_part, when, may_be_none, starts, is_behind, is_followed, is_covered, Covers}
-use Rattle.mc_grammar.specs.Language.{Language, IsSound}
-use Rattle.mc_grammar.specs.Nest.{Marked, bound, free, unmarked, first_mark, other_marks}
-use Rattle.mc_grammar.specs.Room.{Roomed, Admitted, room_at, with_room, admitted, is_admitted, room_grammar, room_tables, room_language}
+use Rattle.mc_grammar.specs.Language.{IsSound}
+use Rattle.mc_grammar.specs.Nest.{Marked, bound, free, unmarked, other_marks}
+use Rattle.mc_grammar.specs.Room.{Admitted, with_room, admitted, is_admitted, room_grammar, room_tables, room_language}
 use Rattle.mc_grammar.proofs.Ahead.{both}
 use Rattle.mc_grammar.proofs.Rooms.{admitted_class}
 

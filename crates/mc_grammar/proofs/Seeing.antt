@@ -1,11 +1,10 @@
 -- What looking at the next tokens tells of the classes that may be met.
-use Rattle.std.proofs.Common.{◌≡◌, ◌⊎◌, inl, inr, ℕ, zero, suc, Bool, true, false, not, List, [], ◌∷◌, refl, sym, IsTrue, ◌&&◌, subst, Option, Some, None}
-use Rattle.mc_grammar.specs.Grammar.{Grammar, Symbol, one, rule}
-use Rattle.mc_grammar.specs.Ahead.{Ahead, Tables, Meets, Begins, StandsBehind, MeetsWhole, any_of, is_within_next}
+use Rattle.std.proofs.Common.{◌≡◌, ◌⊎◌, inl, inr, ℕ, Bool, true, false, not, List, [], ◌∷◌, refl, IsTrue, ◌&&◌, subst, Option, Some, None}
+use Rattle.mc_grammar.specs.Ahead.{Ahead, Meets, Begins, StandsBehind, MeetsWhole, any_of, is_within_next}
 use Rattle.mc_grammar.specs.Language.{Language, IsSound}
 use Rattle.mc_grammar.specs.Descent.{Stands, Alike}
 use Rattle.mc_grammar.specs.Places.{Sees, is_met, stands_behind, is_met_whole}
-use Rattle.mc_grammar.proofs.Ahead.{both, meets_within}
+use Rattle.mc_grammar.proofs.Ahead.{meets_within}
 
 refuted : (b : Bool) → (IsTrue b → ⊥) → IsTrue (not b)
 refuted true h = absurd (h refl)
@@ -116,6 +115,23 @@ module _ {K R A S T V : Type 0} (l : Language K R A S T V) where
       → IsTrue (not (any_of (λ o. is_met l o v) os))
       → Sees l 1 v (λ k. not (any_of (λ o. is_within_next l.tables.is_within k o) os))
   sees_none_of d v os h = record { sees = λ w same k m. none_within d v w k os same m h }
+
+  -- A class that is not met, in whatever way one knows it, tells that none within it is.
+  pub sees_not : (d : IsSound l) (look : ℕ) (v : List S) (o : Option K)
+      → ((w : List T) → Alike l look w v → MeetsWhole l.grammar l.tables o w → ⊥)
+      → Sees l look v (λ k. not (is_within_next l.tables.is_within k o))
+  sees_not d look v o h = record {
+    sees = λ w same k m. refuted (is_within_next l.tables.is_within k o)
+        (λ within. h w same (meets_within l.grammar l.tables d.covers k o w within m));
+  }
+
+  -- A class that the next two tokens do not meet, with what stands behind it.
+  pub sees_not_two : (d : IsSound l) (v : List S) (o : Option K)
+      → IsTrue (not (is_met_whole l o v))
+      → Sees l 2 v (λ k. not (is_within_next l.tables.is_within k o))
+  sees_not_two d v o h =
+      sees_not d 2 v o
+      (λ w same m. not_true (is_met_whole l o v) h (met_whole d o w v same m))
 
   -- Kinds of tokens: what may be met by the kind of the next one.
   abbrev pub met_by_kind : {Kind : Type 0} → (K → Kind → Bool) → Kind → Option K → Bool

@@ -1,19 +1,19 @@
 -- A grammar of sums, `sum := atom {+ atom}` and `atom := digit | ( sum )`, and each way through the
 -- functions that would read it.
-use Rattle.std.proofs.Common.{◌≡◌, inl, inr, ℕ, zero, suc, ◌+◌, ◌≤◌, Bool, true, false, not, List, [], ◌∷◌, ◌++◌, refl, IsTrue, Option, Some, None, nat_eq, arith}
+use Rattle.std.proofs.Common.{inl, ℕ, suc, Bool, true, false, not, List, [], ◌∷◌, ◌++◌, refl, IsTrue, Some, None, nat_eq, arith}
 use Rattle.std.proofs.lemmas.Bool.Decides.{nat_tests}
 use Rattle.mc_grammar.specs.Grammar.{Grammar, Symbol, one, rule}
 use Rattle.mc_grammar.specs.Reading.{Forest, bare, leaf, node, IsReading}
 use Rattle.mc_grammar.specs.Ahead.{Ahead, Tables, every, is_covered, Covers}
 use Rattle.mc_grammar.specs.Language.{Language, IsSound}
-use Rattle.mc_grammar.specs.Places.{Inside, Done, Fails, IsTooDeep}
+use Rattle.mc_grammar.specs.Places.{Done, Fails, IsTooDeep}
 use Rattle.mc_grammar.specs.Completions.{Completions, Complete}
 use Rattle.mc_grammar.specs.Chains.{Chain}
 use Rattle.mc_grammar.specs.Nest.{Marked}
 use Rattle.mc_grammar.specs.Room.{Roomed, Admitted, admitted, room_language, free_completions}
 use Rattle.mc_grammar.proofs.Rooms.{free_completed}
 use Rattle.mc_grammar.proofs.RoomTables.{room_sound}
-use Rattle.mc_grammar.proofs.Seeing.{sees_nothing, sees_next}
+use Rattle.mc_grammar.proofs.Seeing.{sees_next}
 use Rattle.mc_grammar.proofs.Inside.{enter}
 use Rattle.mc_grammar.proofs.Ways.{choose, take_token, read_rule, finish, one_link, last_link, no_place, rule_fails, no_room}
 

@@ -1,9 +1,8 @@
 -- Reading symbols side by side, opening a rule, taking a token.
 use Rattle.std.proofs.Common.{◌≡◌, List, [], ◌∷◌, ◌++◌, refl, sym, ap, ◌∙◌, append_assoc, map, IsTrue, subst}
-use Rattle.std.proofs.lemmas.List.{map-append}
-use Rattle.mc_grammar.specs.Grammar.{Grammar, Symbol, one, rule}
+use Rattle.mc_grammar.specs.Grammar.{Symbol, one, rule}
 use Rattle.mc_grammar.specs.Reading.{Forest, bare, leaf, node, tokens_of, IsOneOf, Fits}
-use Rattle.mc_grammar.specs.Language.{Language, values_of, Reads, Means, IsSound}
+use Rattle.mc_grammar.specs.Language.{Language, Reads, Means}
 use Rattle.mc_grammar.proofs.Forests.{beside, tokens_of-beside, Fits-beside}
 
 module _ {K R A S T V : Type 0} (l : Language K R A S T V) where

@@ -1,15 +1,14 @@
 -- What a descent says at the top, of the grammar without room: where no reading goes on, and where
 -- none goes on within the limit.
-use Rattle.std.proofs.Common.{◌≡◌, ◌⊎◌, inl, inr, ℕ, zero, suc, ◌+◌, ◌-◌, ◌≤◌, Bool, List, [], ◌∷◌, ◌++◌, refl, sym, ap, ◌∙◌, append_assoc, append-nil, map, subst, arith, Option, Some, None}
+use Rattle.std.proofs.Common.{◌≡◌, inl, ℕ, suc, Bool, List, [], ◌∷◌, ◌++◌, refl, sym, ap, ◌∙◌, append_assoc, append-nil, map, subst, arith, None}
 use Rattle.std.proofs.lemmas.List.{map-append}
-use Rattle.mc_grammar.specs.Grammar.{Grammar, Symbol, one, rule}
-use Rattle.mc_grammar.specs.Reading.{Forest, bare, leaf, node, tokens_of, IsReading, Fits}
+use Rattle.mc_grammar.specs.Grammar.{Grammar, rule}
+use Rattle.mc_grammar.specs.Reading.{Forest, bare, leaf, node, tokens_of, IsReading}
 use Rattle.mc_grammar.specs.Ahead.{Tables, Covers}
-use Rattle.mc_grammar.specs.Language.{Language, values_of, Reads, Means, IsSound}
-use Rattle.mc_grammar.specs.Descent.{Stands, Alike, Stuck, Deep}
+use Rattle.mc_grammar.specs.Language.{Reads}
 use Rattle.mc_grammar.specs.Places.{Done, Fails, IsTooDeep}
 use Rattle.mc_grammar.specs.Nest.{Marked, bound, free, unmarked, Nested, nested, AreWithin}
-use Rattle.mc_grammar.specs.Room.{Roomed, Admitted, room_grammar, room_language, whole_rule}
+use Rattle.mc_grammar.specs.Room.{room_language, whole_rule}
 use Rattle.mc_grammar.specs.Goes.{GoesOn, GoesOnWithin}
 use Rattle.mc_grammar.proofs.Paths.{stuck_stops, left_over, allows_end}
 use Rattle.mc_grammar.proofs.Rooms.{unmarked_forest, tokens_of-unmarked, fits_unmarked, reads_within, Given, within_reads, free_within, values_of-unmarked}

@@ -1,19 +1,13 @@
 -- Values of what symbols read, side by side and in a node.
-use Rattle.std.proofs.Common.{◌≡◌, ◌⊎◌, inl, inr, ℕ, zero, suc, ◌+◌, ◌-◌, ◌≤◌, max, Bool, true, false, not, List, [], ◌∷◌, ◌++◌, length, refl, sym, ap, ◌∙◌, append_assoc, append-nil, map, IsTrue, ◌&&◌, subst, arith, Option, Some, None}
+use Rattle.std.proofs.Common.{◌≡◌, ℕ, ◌≤◌, Bool, true, false, not, List, [], ◌∷◌, ◌++◌, length, refl, sym, ap, ◌∙◌, append-nil, map, IsTrue, ◌&&◌, subst, arith}
 use Rattle.std.proofs.lemmas.List.{map-append}
-use Rattle.mc_grammar.specs.Grammar.{Grammar, Symbol, one, rule}
+use Rattle.mc_grammar.specs.Grammar.{Symbol, one, rule}
 use Rattle.mc_grammar.specs.Reading.{Forest, bare, leaf, node, tokens_of, IsOneOf, Fits}
-use Rattle.mc_grammar.specs.Ahead.{Ahead, Tables, BeginsWhole, MeetsWhole, every, any_of, is_part, starts, is_followed}
-use Rattle.mc_grammar.specs.Language.{Language, values_of, Reads, Means, IsSound}
-use Rattle.mc_grammar.specs.Descent.{Allows, Stands, Alike, Leads, Stuck, Deep}
-use Rattle.mc_grammar.specs.Places.{Place, behind_next, before, entries, passes, all_pass, is_out, all_out, kept, is_next, is_barred, Sees, ReadsOne, IsReached, EachReached, Inside, Done, Fails, IsTooDeep}
-use Rattle.mc_grammar.specs.Completions.{Completions, completion, Complete}
-use Rattle.mc_grammar.proofs.Ahead.{both, chosen, begins_as}
+use Rattle.mc_grammar.specs.Ahead.{Ahead, may_be_none}
+use Rattle.mc_grammar.specs.Language.{Language, values_of, Means, IsSound}
+use Rattle.mc_grammar.specs.Places.{Done}
+use Rattle.mc_grammar.proofs.Ahead.{empty_within}
 use Rattle.mc_grammar.proofs.Forests.{beside, tokens_of-beside, Fits-beside}
-use Rattle.mc_grammar.proofs.Steps.{reads_nothing, reads_append, Parts, reads_parts, Opened, reads_opened, reads_closed, reads_nothing_alone, reads_token, reads_taken, Taken, means_reads}
-use Rattle.mc_grammar.proofs.Marks.{alike_free, alike_bound, alike_shorter, reads_freed}
-use Rattle.mc_grammar.proofs.Paths.{then_leads, then_stuck, then_deep, frame, frame_stuck, frame_deep, allows_more, reads_at, marked_twice}
-use Rattle.mc_grammar.proofs.Completing.{completes}
 
 module _ {K R A S T V : Type 0} (l : Language K R A S T V) where
   -- Values side by side.
@@ -73,3 +67,49 @@ module _ {K R A S T V : Type 0} (l : Language K R A S T V) where
   pub means_at : (ss zz : List (Symbol K R)) (front : List S) (vs : List V) → ss ≡ zz
       → Means l ss front vs → Means l zz front vs
   means_at ss zz front vs e p = subst (λ (x : List (Symbol K R)). Means l x front vs) e p
+
+  -- Symbols that read no token may read none.
+  no_tokens : (d : IsSound l) (ss : List (Symbol K R)) (f : Forest A T) → Fits l.grammar ss f
+      → tokens_of f ≡ [] → IsTrue (may_be_none l.tables ss)
+  no_tokens d [] f p e = refl
+  no_tokens d (one k ∷ ss) bare p e = absurd p
+  no_tokens d (one k ∷ ss) (node a x f) p e = absurd p
+  no_tokens d (one k ∷ ss) (leaf x f) p e = absurd (different e)
+    where
+      different : x ∷ tokens_of f ≡ [] → ⊥
+      different h = cc
+  no_tokens d (rule r ∷ ss) bare p e = absurd p
+  no_tokens d (rule r ∷ ss) (leaf x f) p e = absurd p
+  no_tokens d (rule r ∷ ss) (node a x f) p e =
+      both_hold (l.tables.may_be_empty r) (may_be_none l.tables ss)
+      (empty_within l.grammar l.tables d.covers r a p.0
+      (no_tokens d (l.grammar.symbols a) x p.1 (no_first (tokens_of x) (tokens_of f) e)))
+      (no_tokens d ss f p.2 (no_second (tokens_of x) (tokens_of f) e))
+    where
+      both_hold : (a b : Bool) → IsTrue a → IsTrue b → IsTrue (a && b)
+      both_hold true b h k = k
+      both_hold false b h k = absurd (cc)
+
+      no_first : (ts us : List T) → ts ++ us ≡ [] → ts ≡ []
+      no_first [] us h = refl
+      no_first (y ∷ ts) us h = absurd (cc)
+
+      no_second : (ts us : List T) → ts ++ us ≡ [] → us ≡ []
+      no_second [] us h = h
+      no_second (y ∷ ts) us h = absurd (cc)
+
+  -- A rule that is read and may not be empty takes a token.
+  pub done_takes : (d : IsSound l) (after : Ahead K) (look : ℕ) (r : R) (tokens rest : List S)
+      (value : V) → IsTrue (not (l.tables.may_be_empty r))
+      → (o : Done l after look r tokens rest value) → 1 ≤ length o.front
+  done_takes d after look r tokens rest value h o = by_front o.front refl
+    where
+      empty : (b : Bool) → IsTrue (not b) → IsTrue (b && true) → ⊥
+      empty true h k = cc
+      empty false h k = cc
+
+      by_front : (front : List S) → o.front ≡ front → 1 ≤ length o.front
+      by_front [] e =
+          absurd (empty (l.tables.may_be_empty r) h (no_tokens d (rule r ∷ []) o.means.forest
+          o.means.fits (o.means.same_tokens ∙ ap (λ (x : List S). map l.bound x) e)))
+      by_front (s ∷ front) e = subst (λ (x : List S). 1 ≤ length x) (sym e) (omega arith)

@@ -1,12 +1,12 @@
 -- The steps of a way through a function that reads a rule, in short.
 use Rattle.std.proofs.Common.{◌≡◌, ℕ, ◌+◌, ◌-◌, ◌≤◌, max, Bool, List, [], ◌∷◌, ◌++◌, length, IsTrue, Option, arith}
-use Rattle.mc_grammar.specs.Grammar.{Grammar, Symbol, one, rule}
+use Rattle.mc_grammar.specs.Grammar.{rule}
 use Rattle.mc_grammar.specs.Ahead.{Ahead, every}
 use Rattle.mc_grammar.specs.Language.{Language, IsSound}
 use Rattle.mc_grammar.specs.Places.{Place, behind_next, before, entries, all_pass, all_out, kept, is_next, is_barred, Sees, Inside, Done, Fails, IsTooDeep}
 use Rattle.mc_grammar.specs.Chains.{Chain}
 use Rattle.mc_grammar.specs.Completions.{Completions, Complete}
-use Rattle.mc_grammar.proofs.Inside.{enter, narrow, token, read, leave}
+use Rattle.mc_grammar.proofs.Inside.{enter, narrow, widened, token, read, leave}
 use Rattle.mc_grammar.proofs.Links.{chain_step, chain_end, chain_fails, chain_too_deep}
 use Rattle.mc_grammar.proofs.Failing.{stuck_here, stuck_behind, too_deep_here, too_deep_behind}
 
@@ -25,6 +25,13 @@ module _ {K R A S T V : Type 0} (l : Language K R A S T V) (d : IsSound l) where
       → Inside l after (max n m) r (kept l may after places) vs tokens front rest
   look p s = narrow l d _ _ _ _ _ _ _ _ _ _ p s
 
+  -- A look at more tokens, which tells nothing new.
+  pub widen : {after : Ahead K} {n m : ℕ} {r : R} {places : List (Place K R A)} {vs : List V}
+      {tokens front rest : List S}
+      → Inside l after n r places vs tokens front rest → n ≤ m
+      → Inside l after m r places vs tokens front rest
+  widen p lt = widened l _ _ _ _ _ _ _ _ _ p lt
+
   -- The next token is taken.
   pub take_token : {after : Ahead K} {n : ℕ} {r : R} {places : List (Place K R A)} {vs : List V}
       {tokens front : List S} {s : S} {rest : List S}
@@ -42,6 +49,15 @@ module _ {K R A S T V : Type 0} (l : Language K R A S T V) (d : IsSound l) where
       → IsTrue (all_pass l after (behind_next places) after') → n ≤ m
       → Inside l after m r (behind_next places) (vs ++ (value ∷ [])) tokens (front ++ o.front) v
   read_rule p o e h lt = read l d _ _ _ _ _ _ _ _ _ _ _ _ _ _ p e h o (omega (arith, lt))
+
+  -- The same, where the tokens that the rule took are looked at too.
+  pub read_rule_far : {after after' : Ahead K} {n m : ℕ} {r q : R} {places : List (Place K R A)}
+      {vs : List V} {tokens front rest v : List S} {value : V}
+      → Inside l after n r places vs tokens front rest → (o : Done l after' m q rest v value)
+      → places ≡ before (rule q) (behind_next places)
+      → IsTrue (all_pass l after (behind_next places) after') → n ≤ length o.front + m
+      → Inside l after m r (behind_next places) (vs ++ (value ∷ [])) tokens (front ++ o.front) v
+  read_rule_far p o e h lt = read l d _ _ _ _ _ _ _ _ _ _ _ _ _ _ p e h o lt
 
   -- Nothing is left of the alternative.
   pub finish : {after : Ahead K} {n : ℕ} {r : R} {a : A} {vs : List V}
@@ -103,6 +119,16 @@ module _ {K R A S T V : Type 0} (l : Language K R A S T V) (d : IsSound l) where
     rule_fails p o e h lt =
         stuck_behind l d c f _ _ _ _ _ _ _ _ _ _ _ _ _ p e h o (omega (arith, lt))
 
+    -- The same, where the tokens that the rule took are looked at too.
+    pub rule_fails_far : {after after' : Ahead K} {n : ℕ} {r q : R} {place : Place K R A}
+        {places : List (Place K R A)} {vs : List V} {tokens front rest v : List S}
+        → Inside l after n r (place ∷ places) vs tokens front rest
+        → (o : Fails l after' q rest v)
+        → place ∷ places ≡ before (rule q) (behind_next (place ∷ places))
+        → IsTrue (all_pass l after (behind_next (place ∷ places)) after')
+        → n ≤ length o.front + 1 → Fails l after r tokens v
+    rule_fails_far p o e h lt = stuck_behind l d c f _ _ _ _ _ _ _ _ _ _ _ _ _ p e h o lt
+
     -- All places want the next token, and none has a level for it.
     pub no_room : {after : Ahead K} {n : ℕ} {r : R} {place : Place K R A}
         {places : List (Place K R A)} {vs : List V} {tokens front : List S} {s : S}
@@ -121,3 +147,13 @@ module _ {K R A S T V : Type 0} (l : Language K R A S T V) (d : IsSound l) where
         → IsTooDeep l after r tokens v
     rule_too_deep p o e h lt =
         too_deep_behind l d c f _ _ _ _ _ _ _ _ _ _ _ _ _ p e h o (omega (arith, lt))
+
+    -- The same, where the tokens that the rule took are looked at too.
+    pub rule_too_deep_far : {after after' : Ahead K} {n : ℕ} {r q : R} {place : Place K R A}
+        {places : List (Place K R A)} {vs : List V} {tokens front rest v : List S}
+        → Inside l after n r (place ∷ places) vs tokens front rest
+        → (o : IsTooDeep l after' q rest v)
+        → place ∷ places ≡ before (rule q) (behind_next (place ∷ places))
+        → IsTrue (all_pass l after (behind_next (place ∷ places)) after')
+        → n ≤ length o.front + 1 → IsTooDeep l after r tokens v
+    rule_too_deep_far p o e h lt = too_deep_behind l d c f _ _ _ _ _ _ _ _ _ _ _ _ _ p e h o lt

@@ -1,6 +1,6 @@
 -- Chains `X {sep X}`: a rule that begins again at the end of its alternatives.
 use Rattle.std.specs.Prelude.{◌≡◌, ℕ, List, [], ◌∷◌, ◌++◌}
-use Rattle.mc_grammar.specs.Grammar.{Symbol, rule}
+use Rattle.mc_grammar.specs.Grammar.{rule}
 use Rattle.mc_grammar.specs.Ahead.{Ahead}
 use Rattle.mc_grammar.specs.Language.{Language, Means}
 use Rattle.mc_grammar.specs.Descent.{Leads}

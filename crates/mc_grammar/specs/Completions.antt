@@ -1,6 +1,6 @@
 -- What completes a reading: a token of each class, and a list of tokens for each rule.
 use Rattle.std.specs.Prelude.{List, [], ◌∷◌, ◌++◌, IsTrue}
-use Rattle.mc_grammar.specs.Grammar.{Grammar, Symbol, one, rule}
+use Rattle.mc_grammar.specs.Grammar.{Symbol, one, rule}
 use Rattle.mc_grammar.specs.Language.{Language, Reads}
 
 -- A token of each class, and tokens of each rule.

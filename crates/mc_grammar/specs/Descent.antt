@@ -1,9 +1,9 @@
 -- What a descent by looking ahead may say of the tokens that it took: Aho, Lam, Sethi and Ullman,
 -- Compilers, 4.4. A list of symbols is what is still to be read, as on the stack of a predictive
 -- parser.
-use Rattle.std.specs.Prelude.{◌≡◌, ◌⊎◌, ℕ, zero, suc, Bool, List, [], ◌∷◌, ◌++◌, map, IsTrue}
-use Rattle.mc_grammar.specs.Grammar.{Grammar, Symbol, one, rule}
-use Rattle.mc_grammar.specs.Ahead.{Ahead, Tables, BeginsWhole}
+use Rattle.std.specs.Prelude.{◌≡◌, ◌⊎◌, ℕ, zero, suc, List, [], ◌∷◌, ◌++◌, map}
+use Rattle.mc_grammar.specs.Grammar.{Symbol}
+use Rattle.mc_grammar.specs.Ahead.{Ahead, BeginsWhole}
 use Rattle.mc_grammar.specs.Language.{Language, Reads}
 
 module _ {K R A S T V : Type 0} (l : Language K R A S T V) where

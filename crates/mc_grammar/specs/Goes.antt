@@ -1,9 +1,9 @@
 -- Tokens that a reading goes on from: the viable prefixes of Aho, Lam, Sethi and Ullman, Compilers,
 -- 4.1.3, where a parser finds an error as soon as one can be seen.
-use Rattle.std.specs.Prelude.{◌≡◌, ℕ, Bool, List, [], ◌∷◌, ◌++◌, map}
+use Rattle.std.specs.Prelude.{ℕ, Bool, List, [], ◌++◌, map}
 use Rattle.mc_grammar.specs.Grammar.{Grammar}
 use Rattle.mc_grammar.specs.Reading.{Forest, IsReading}
-use Rattle.mc_grammar.specs.Nest.{Marked, bound, free, nested, AreWithin}
+use Rattle.mc_grammar.specs.Nest.{bound, free, nested, AreWithin}
 
 module _ {K R A T : Type 0} (g : Grammar K R A T) where
   -- Some tokens behind these make a reading by the rule.

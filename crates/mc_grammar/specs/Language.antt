@@ -1,6 +1,6 @@
 -- A grammar with what a reader of it rests on: tables of what may stand next, marks, and values.
 use Rattle.std.specs.Prelude.{◌≡◌, List, [], ◌∷◌, map, IsTrue}
-use Rattle.mc_grammar.specs.Grammar.{Grammar, Symbol, one, rule}
+use Rattle.mc_grammar.specs.Grammar.{Grammar, Symbol}
 use Rattle.mc_grammar.specs.Reading.{Forest, bare, leaf, node, tokens_of, Fits}
 use Rattle.mc_grammar.specs.Ahead.{Tables, Covers}
 

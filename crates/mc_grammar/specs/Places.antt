@@ -1,9 +1,9 @@
 -- Places inside the alternatives of a rule, where some of their symbols are read and some are left:
 -- the items of Aho, Lam, Sethi and Ullman, Compilers, 4.6.2.
 use Rattle.std.specs.Prelude.{◌≡◌, ◌⊎◌, ◌&&◌, not, ℕ, Bool, true, false, List, [], ◌∷◌, ◌++◌, Option, Some, None, map, IsTrue}
-use Rattle.mc_grammar.specs.Grammar.{Grammar, Symbol, one, rule}
+use Rattle.mc_grammar.specs.Grammar.{Symbol, one, rule}
 use Rattle.mc_grammar.specs.Reading.{IsOneOf}
-use Rattle.mc_grammar.specs.Ahead.{Ahead, Tables, every, any_of, is_part, starts, is_followed, MeetsWhole}
+use Rattle.mc_grammar.specs.Ahead.{Ahead, every, any_of, is_part, starts, is_followed, MeetsWhole}
 use Rattle.mc_grammar.specs.Language.{Language, Reads, Means}
 use Rattle.mc_grammar.specs.Descent.{Allows, Alike, Leads, Stuck, Deep}
 

@@ -1,6 +1,6 @@
 -- A grammar with room: how deep its tokens may stand. A rule is paired with how many levels there
 -- are for its tokens, their own included; a bound token needs a level, a free one does not.
-use Rattle.std.specs.Prelude.{ℕ, zero, suc, Bool, true, false, ◌&&◌, List, [], ◌∷◌, map, Option}
+use Rattle.std.specs.Prelude.{ℕ, zero, suc, Bool, true, false, ◌&&◌, List, [], ◌∷◌, map}
 use Rattle.std.specs.Option.{option_map}
 use Rattle.mc_grammar.specs.Grammar.{Grammar, Symbol, one, rule}
 use Rattle.mc_grammar.specs.Ahead.{Ahead, Tables}
