@@ -1,9 +1,8 @@
 -- The completions of the grammar are read.
-use Rattle.std.proofs.Common.{◌≡◌, refl, ℕ, Bool, true, false, List, [], ◌∷◌, IsTrue, Option, Some, None, map}
+use Rattle.std.proofs.Common.{◌≡◌, refl, Bool, true, false, List, [], ◌∷◌, IsTrue, Option, Some, None}
 use Rattle.std.specs.Option.{option_map}
 use Rattle.mc_token.specs.declared.lexeme.Token.{Token}
-use Rattle.mc_grammar.specs.Grammar.{Symbol, one, rule}
-use Rattle.mc_grammar.specs.Reading.{Forest}
+use Rattle.mc_grammar.specs.Grammar.{Symbol, rule}
 use Rattle.mc_grammar.specs.Ahead.{every}
 use Rattle.mc_grammar.specs.Language.{Language, Reads}
 use Rattle.mc_grammar.specs.Completions.{completion, Complete}

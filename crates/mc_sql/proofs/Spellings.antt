@@ -1,5 +1,5 @@
 -- A mark is known by its spelling.
-use Rattle.std.proofs.Common.{◌≡◌, refl, Bool, true, false, ℕ, List, [], ◌∷◌}
+use Rattle.std.proofs.Common.{◌≡◌, refl, true, false, ℕ, List, [], ◌∷◌}
 use Rattle.mc_token.specs.declared.lexeme.Symbol.{Symbol}
 use Rattle.mc_token.specs.declared.lexeme.Symbol.TheVariants.{LeftParen, RightParen, Comma, Dot, Star, Plus, Minus, Percent, Eq, Ne, NeBang, Lt, Le, Gt, Ge, NullEq}
 use Rattle.mc_sql.specs.Classes.{same_text, spelling}

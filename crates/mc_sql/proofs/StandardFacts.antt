@@ -1,24 +1,24 @@
 -- Ways through functions that would read rules of the statements: where one token tells, where two
 -- do, and where alternatives begin alike.
-use Rattle.std.proofs.Common.{◌≡◌, refl, ℕ, suc, ◌≤◌, Bool, List, [], ◌∷◌, ◌++◌, IsTrue, codes, arith}
+use Rattle.std.proofs.Common.{refl, ℕ, suc, List, ◌∷◌, Some, true, codes, arith}
 use Rattle.mc_base.specs.declared.span.Span.{Span}
 use Rattle.mc_token.specs.declared.lexeme.Lexeme.TheVariants.{Word, Sym}
 use Rattle.mc_token.specs.declared.lexeme.Lexeme.{Lexeme}
-use Rattle.mc_token.specs.declared.lexeme.Symbol.TheVariants.{LeftParen, RightParen, Comma}
+use Rattle.mc_token.specs.declared.lexeme.Symbol.TheVariants.{LeftParen, Comma}
 use Rattle.mc_token.specs.declared.lexeme.Token.{Token}
-use Rattle.mc_grammar.specs.Grammar.{Symbol, one, rule}
 use Rattle.mc_grammar.specs.Ahead.{Ahead}
 use Rattle.mc_grammar.specs.Language.{Language, IsSound}
-use Rattle.mc_grammar.specs.Places.{Inside, Done, Fails, IsTooDeep}
+use Rattle.mc_grammar.specs.Places.{Done, Fails, IsTooDeep}
 use Rattle.mc_grammar.specs.Completions.{Complete}
 use Rattle.mc_grammar.specs.Nest.{Marked}
 use Rattle.mc_grammar.specs.Room.{Roomed, Admitted, admitted, room_language, free_completions}
 use Rattle.mc_grammar.proofs.RoomTables.{room_sound}
-use Rattle.mc_grammar.proofs.Seeing.{sees_next, sees_two, sees_nothing}
+use Rattle.mc_grammar.proofs.Seeing.{sees_next, sees_two, sees_not_two}
 use Rattle.mc_grammar.proofs.Inside.{enter}
-use Rattle.mc_grammar.proofs.Ways.{choose, look, take_token, read_rule, finish, no_place, rule_fails, no_room}
-use Rattle.mc_sql.specs.Classes.{Class, is_reserved, is_intro, is_called}
-use Rattle.mc_sql.specs.Rules.{Rule, Alternative, or, not, pred, not_option, sum, prim, call, escape_option, negated, in_parens, matched}
+use Rattle.mc_grammar.proofs.Values.{done_takes}
+use Rattle.mc_grammar.proofs.Ways.{choose, look, take_token, read_rule, read_rule_far, finish, no_place, no_room}
+use Rattle.mc_sql.specs.Classes.{Class, word, is_reserved, is_intro, is_called}
+use Rattle.mc_sql.specs.Rules.{Rule, Alternative, not, pred, not_option, sum, prim, call, escape_option}
 use Rattle.mc_sql.specs.Statements.{statements}
 use Rattle.mc_sql.specs.Nest.{deeper}
 use Rattle.mc_sql.specs.Completions.{completions}
@@ -79,17 +79,17 @@ module _ {V : Type 0} (tv : Token → V) (nv : Alternative → List Token → Li
 
   -- A word before a parenthesis is that of a call, the same word before a comma is a column.
   call_chosen : (n : ℕ) (s u : Span) (v w : List Token) (x : V)
-      → Done language (behind call) 2 (at (suc n) call)
+      → Done language (behind call) 1 (at (suc n) call)
       (the_token s (Word (codes "f")) ∷ the_token u (Sym LeftParen) ∷ v) w x
-      → (value : V) × Done language (behind prim) 2 (at (suc n) prim)
+      → (value : V) × Done language (behind prim) 1 (at (suc n) prim)
       (the_token s (Word (codes "f")) ∷ the_token u (Sym LeftParen) ∷ v) w value
   unfolding is_reserved is_intro is_called
   call_chosen n s u v w x o = (
     _,
-    finish language sound (read_rule language sound
+    finish language sound (read_rule_far language sound
         (choose language sound (sees_two language sound
         (the_token s (Word (codes "f")) ∷ the_token u (Sym LeftParen) ∷ v))) o refl refl
-        (omega arith)),
+        (omega (arith, done_takes language sound _ _ _ _ _ _ refl o))),
   )
 
   column_chosen : (n : ℕ) (s u : Span) (v : List Token)
@@ -122,4 +122,17 @@ module _ {V : Type 0} (tv : Token → V) (nv : Alternative → List Token → Li
         (sees_next language sound (the_token s (Word (codes "like")) ∷ v)))
         without refl refl (omega arith)) refl) second refl refl (omega arith))
         rest refl refl (omega arith)),
+  )
+
+  -- ESCAPE with no string behind it is no clause, where an alias may follow.
+  escape_left : (n : ℕ) (s u : Span) (v : List Token)
+      → (value : V) × Done language (behind escape_option) 2 (at (suc n) escape_option)
+      (the_token s (Word (codes "escape")) ∷ the_token u (Sym Comma) ∷ v)
+      (the_token s (Word (codes "escape")) ∷ the_token u (Sym Comma) ∷ v) value
+  unfolding is_reserved is_intro is_called
+  escape_left n s u v = (
+    _,
+    finish language sound (choose language sound (sees_not_two language sound
+        (the_token s (Word (codes "escape")) ∷ the_token u (Sym Comma) ∷ v)
+        (Some (record { class = word (codes "escape"); has_room = true })) refl)),
   )

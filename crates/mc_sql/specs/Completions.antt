@@ -1,9 +1,8 @@
 -- What completes a statement from any place inside a rule: a lexeme of each class, and lexemes of each
 -- rule.
 use Rattle.std.specs.Prelude.{List, [], ◌∷◌, map, pos, codes}
-use Rattle.mc_base.specs.declared.span.Span.{Span}
 use Rattle.mc_token.specs.declared.lexeme.Lexeme.{Lexeme}
-use Rattle.mc_token.specs.declared.lexeme.Lexeme.TheVariants.{Word, Name, Int, Str, National, Hex, Sym}
+use Rattle.mc_token.specs.declared.lexeme.Lexeme.TheVariants.{Word, Int, Str, National, Hex, Sym}
 use Rattle.mc_token.specs.declared.lexeme.Symbol.TheVariants.{LeftParen, RightParen, Eq}
 use Rattle.mc_token.specs.declared.lexeme.Token.{Token}
 use Rattle.mc_grammar.specs.Completions.{Completions}

@@ -1,7 +1,7 @@
 -- Which symbols of an alternative stand one level deeper than it: those in parentheses, and NOT and
 -- unary minus with their operands. MySQL 8.0 manual, 12.4.1.
 use Rattle.std.specs.Prelude.{Bool, true, false, List, [], ◌∷◌}
-use Rattle.mc_grammar.specs.Grammar.{Symbol, one, rule}
+use Rattle.mc_grammar.specs.Grammar.{Symbol, one}
 use Rattle.mc_token.specs.declared.lexeme.Symbol.TheVariants.{LeftParen, RightParen}
 use Rattle.mc_sql.specs.Classes.{Class, mark}
 use Rattle.mc_sql.specs.Rules.{Rule, Alternative, negated, minus}
