@@ -2,7 +2,7 @@
 use Rattle.std.proofs.Common.{◌≡◌, ◌⊎◌, inl, inr, ◌&&◌, ◌||◌, not, Bool, true, false, List, [], ◌∷◌, ◌++◌, refl, sym, ap, ◌∙◌, append_assoc, Option, Some, None, IsTrue, subst}
 use Rattle.mc_grammar.specs.Grammar.{Grammar, Symbol, one, rule}
 use Rattle.mc_grammar.specs.Reading.{Forest, bare, leaf, node, tokens_of, IsOneOf, Fits}
-use Rattle.mc_grammar.specs.Decides.{Ahead, Tables, Meets, Begins, StandsBehind, MeetsWhole, BeginsWhole, is_behind, every, any_of, are_apart_next, is_within_next, exclude, is_part, when, may_be_none, starts, is_followed, is_covered, all_distinct, Decides}
+use Rattle.mc_grammar.specs.Ahead.{Ahead, Tables, Meets, Begins, StandsBehind, MeetsWhole, BeginsWhole, is_behind, every, any_of, are_apart_next, is_within_next, exclude, is_part, when, may_be_none, starts, is_followed, is_covered, Covers}
 
 pub both : (a b : Bool) → IsTrue (a && b) → IsTrue a × IsTrue b
 both true b h = (refl, h)
@@ -46,8 +46,8 @@ module _ {K R A T : Type 0} (g : Grammar K R A T) (t : Tables K R) where
   Begins-split (k ∷ ks) ls tokens (inr c) =
       elim (Begins-split ks ls tokens c) [ inl d ↦ inl (inr d) | inr d ↦ inr d ]
 
-  module _ (depth : _) (d : Decides g t depth) where
-    meets_within : (k l : Option K) (tokens : List T) → IsTrue (is_within_next t.is_within k l)
+  module _ (d : Covers g t) where
+    pub meets_within : (k l : Option K) (tokens : List T) → IsTrue (is_within_next t.is_within k l)
         → MeetsWhole g t k tokens → MeetsWhole g t l tokens
     meets_within None None tokens h m = m
     meets_within None (Some l) tokens h m = absurd (cc)
@@ -149,9 +149,8 @@ module _ {K R A T : Type 0} (g : Grammar K R A T) (t : Tables K R) where
         ]
 
     pub covered : (r : R) (a : A) → IsOneOf a (g.alternatives r) → IsTrue (is_covered g t r a)
-    covered r a i = every_one (λ a. is_covered g t r a) a (g.alternatives r)
-        (both (every (λ a. is_covered g t r a) (g.alternatives r))
-        (all_distinct g t depth (t.follows r) (g.alternatives r)) (d.each_rule r)).0 i
+    covered r a i =
+        every_one (λ a. is_covered g t r a) a (g.alternatives r) (d.each_alternative r) i
 
     may_be : (a b : Bool) → IsTrue (not a || b) → IsTrue a → IsTrue b
     may_be true b h k = h

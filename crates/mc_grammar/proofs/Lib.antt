@@ -2,3 +2,17 @@ pub mod Forests
 pub mod Ahead
 pub mod SameReadings
 pub mod Search
+pub mod Steps
+pub mod Marks
+pub mod Paths
+pub mod Completing
+pub mod Values
+pub mod Inside
+pub mod Failing
+pub mod Seeing
+pub mod Links
+pub mod Rooms
+pub mod RoomTables
+pub mod Tops
+pub mod Ways
+pub mod StandardFacts

@@ -1,8 +1,9 @@
--- Where the next token decides, a list of tokens has at most one reading.
+-- Where the alternatives are told apart, a list of tokens has at most one reading.
 use Rattle.std.proofs.Common.{◌≡◌, ◌⊎◌, inl, inr, ◌&&◌, ℕ, zero, suc, ◌+◌, ◌<◌, ◌≤◌, Bool, true, false, List, [], ◌∷◌, ◌++◌, refl, sym, ap, ◌∙◌, append_assoc, arith, IsTrue, subst}
 use Rattle.mc_grammar.specs.Grammar.{Grammar, Symbol, one, rule}
 use Rattle.mc_grammar.specs.Reading.{Forest, bare, leaf, node, tokens_of, IsOneOf, Fits, IsReading}
-use Rattle.mc_grammar.specs.Decides.{Ahead, Tables, BeginsWhole, is_behind, is_followed, every, exclude, is_part, starts, step, are_distinct, all_distinct, is_covered, Decides}
+use Rattle.mc_grammar.specs.Ahead.{Ahead, Tables, BeginsWhole, is_behind, is_followed, every, exclude, is_part, starts}
+use Rattle.mc_grammar.specs.Apart.{step, are_distinct, all_distinct, ToldApart}
 use Rattle.mc_grammar.proofs.Forests.{size, beside, size-beside, tokens_of-beside, Fits-beside}
 use Rattle.mc_grammar.proofs.Ahead.{both, either, every_one, begins_part, excludes, begins_as, followed}
 
@@ -12,7 +13,7 @@ branch true a b h = inl (refl, h)
 branch false a b h = inr h
 
 module _ {K R A T : Type 0} (g : Grammar K R A T) (t : Tables K R) (depth : ℕ)
-    (d : Decides g t depth) where
+    (d : ToldApart g t depth) where
   -- Two nodes of one rule that read the same tokens, and have fewer than `n` leaves and nodes
   -- inside, are the same.
   abbrev SameNodes : ℕ → Type 0
@@ -59,11 +60,11 @@ module _ {K R A T : Type 0} (g : Grammar K R A T) (t : Tables K R) (depth : ℕ)
       sym (append_assoc (tokens_of x) (tokens_of f) u) ∙ e
       ∙ append_assoc (tokens_of y) (tokens_of h) v in
       let cu : BeginsWhole g t (t.follows r) (tokens_of f ++ u) =
-      begins_part g t depth d (starts t ss after) (t.follows r) _ w'.0
-      (begins_as g t depth d ss after f u p.2 w'.1 bu) in
+      begins_part g t d.covers (starts t ss after) (t.follows r) _ w'.0
+      (begins_as g t d.covers ss after f u p.2 w'.1 bu) in
       let cv : BeginsWhole g t (t.follows r) (tokens_of h ++ v) =
-      begins_part g t depth d (starts t ss after) (t.follows r) _ w'.0
-      (begins_as g t depth d ss after h v q.2 w'.1 bv) in
+      begins_part g t d.covers (starts t ss after) (t.follows r) _ w'.0
+      (begins_as g t d.covers ss after h v q.2 w'.1 bv) in
       let nodes : (a ≡ b) × (x ≡ y) × (tokens_of f ++ u ≡ tokens_of h ++ v) =
       H r a b x y (tokens_of f ++ u) (tokens_of h ++ v) (omega arith) p.0 q.0 p.1 q.1 e' cu cv in
       let rest : (f ≡ h) × (u ≡ v) =
@@ -151,11 +152,11 @@ module _ {K R A T : Type 0} (g : Grammar K R A T) (t : Tables K R) (depth : ℕ)
         sym (append_assoc (tokens_of x) (tokens_of f) u) ∙ e
         ∙ append_assoc (tokens_of y) (tokens_of h) v in
         let cu : BeginsWhole g t (t.follows r) (tokens_of f ++ u) =
-        begins_part g t depth d (starts t ss after) (t.follows r) _ wf.0
-        (begins_as g t depth d ss after f u p.2 wf.1 bu) in
+        begins_part g t d.covers (starts t ss after) (t.follows r) _ wf.0
+        (begins_as g t d.covers ss after f u p.2 wf.1 bu) in
         let cv' : BeginsWhole g t (t.follows r') (tokens_of h ++ v) =
-        begins_part g t depth d (starts t zz after') (t.follows r') _ wh.0
-        (begins_as g t depth d zz after' h v q.2 wh.1 bv) in
+        begins_part g t d.covers (starts t zz after') (t.follows r') _ wh.0
+        (begins_as g t d.covers zz after' h v q.2 wh.1 bv) in
         let cv : BeginsWhole g t (t.follows r) (tokens_of h ++ v) =
         subst (λ (s : R). BeginsWhole g t (t.follows s) (tokens_of h ++ v)) (sym same) cv' in
         let j : IsOneOf b (g.alternatives r) =
@@ -222,10 +223,10 @@ module _ {K R A T : Type 0} (g : Grammar K R A T) (t : Tables K R) (depth : ℕ)
           (is_followed t ss after && is_followed t zz after') w in
           let parts : IsTrue (is_followed t ss after) × IsTrue (is_followed t zz after') =
           both (is_followed t ss after) (is_followed t zz after') w'.1 in
-          excludes g t depth d (starts t ss after) (starts t zz after') (tokens_of f ++ u) w'.0
-          (begins_as g t depth d ss after f u p parts.0 bu)
+          excludes g t d.covers (starts t ss after) (starts t zz after') (tokens_of f ++ u) w'.0
+          (begins_as g t d.covers ss after f u p parts.0 bu)
           (subst (λ (ts : List T). BeginsWhole g t (starts t zz after') ts) (sym e)
-          (begins_as g t depth d zz after' h v q parts.1 bv))
+          (begins_as g t d.covers zz after' h v q parts.1 bv))
 
   -- Of two alternatives of a list that passed the comparison, either both are one, or they read no
   -- tokens in common.
@@ -272,18 +273,13 @@ module _ {K R A T : Type 0} (g : Grammar K R A T) (t : Tables K R) (depth : ℕ)
       let q' : Fits g (g.symbols a) y = subst (λ (z : A). Fits g (g.symbols z) y) (sym same) q in
       let rest : (x ≡ y) × (u ≡ v) =
       same_forests n H (g.symbols a) (t.follows r) x y u v lt p q'
-      (followed g t depth d r a i) e bu bv in
+      (followed g t d.covers r a i) e bu bv in
       (same, rest.0, rest.1)
-
-  alternatives_distinct : (r : R) → IsTrue (all_distinct g t depth (t.follows r) (g.alternatives r))
-  alternatives_distinct r =
-      (both (every (λ z. is_covered g t r z) (g.alternatives r))
-      (all_distinct g t depth (t.follows r) (g.alternatives r)) (d.each_rule r)).1
 
   pub same_nodes : (n : ℕ) → SameNodes n
   same_nodes zero r a b x y u v lt i j p q e bu bv = absurd (omega arith)
   same_nodes (suc n) r a b x y u v lt i j p q e bu bv =
-      elim (pairs (t.follows r) (g.alternatives r) a b (alternatives_distinct r) i j) [
+      elim (pairs (t.follows r) (g.alternatives r) a b (d.each_rule r) i j) [
         | inl same ↦ of_one n (same_nodes n) r a b x y u v (omega arith) i p q e bu bv same
         | inr (inl c) ↦ absurd (distinct n (same_nodes n) depth (g.symbols a) (t.follows r)
             (g.symbols b) (t.follows r) x y u v (omega arith) p q e bu bv c)

@@ -4,7 +4,7 @@ use Rattle.std.proofs.Common.{◌≡◌, inl, inr, ℕ, zero, suc, Bool, true, f
 use Rattle.std.specs.Option.{option_map}
 use Rattle.mc_grammar.specs.Grammar.{Grammar, Symbol, one, rule}
 use Rattle.mc_grammar.specs.Reading.{Forest, bare, leaf, node, tokens_of, IsOneOf, Fits, IsReading}
-use Rattle.mc_grammar.specs.Decides.{any_of}
+use Rattle.mc_grammar.specs.Ahead.{any_of}
 use Rattle.mc_grammar.proofs.Forests.{beside, tokens_of-beside, Fits-beside}
 
 -- Each of the list is so.

@@ -1,3 +1,12 @@
 pub mod Grammar
 pub mod Reading
-pub mod Decides
+pub mod Ahead
+pub mod Apart
+pub mod Language
+pub mod Descent
+pub mod Places
+pub mod Completions
+pub mod Chains
+pub mod Nest
+pub mod Room
+pub mod Goes

@@ -1,8 +1,15 @@
-//! Grammars as data, their readings, and what makes a reading the only one: the definitions that a
-//! language is described with, and the law that serves each of them. In reading order: `Grammar`,
-//! `Reading` and `Decides` of `specs/`, then [`readings_are_unique`].
+//! Grammars as data and their readings: what makes a reading the only one, and what a descent that
+//! looks ahead may say of the tokens that it took. In reading order, of `specs/`: `Grammar` and
+//! `Reading`; `Ahead` (FIRST and FOLLOW) and `Apart`, then [`readings_are_unique`]; `Language`,
+//! `Descent`, `Places` and `Chains`; `Completions`, then [`symbols_are_completed`]; `Nest` and `Room`
+//! (a limit of depth), `Goes`, then [`failures_come_first`], [`left_tokens_come_first`] and
+//! [`depths_come_first`].
 #![tactic(auto)]
 
+mod completed;
+mod errors;
 mod unique;
 
+pub use completed::symbols_are_completed;
+pub use errors::{depths_come_first, failures_come_first, left_tokens_come_first};
 pub use unique::readings_are_unique;

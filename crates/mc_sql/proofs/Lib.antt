@@ -1,5 +1,8 @@
 pub mod Apart
 pub mod Tables
 pub mod Numbers
+pub mod Spellings
 pub mod Decided
 pub mod Sound
+pub mod Completing
+pub mod StandardFacts

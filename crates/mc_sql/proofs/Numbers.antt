@@ -1,7 +1,20 @@
 -- A rule is known by its number.
-use Rattle.std.proofs.Common.{◌≡◌, refl, ℕ, zero, suc, List, [], ◌∷◌}
+use Rattle.std.proofs.Common.{◌≡◌, refl, ℕ, zero, suc, Bool, List, [], ◌∷◌, IsTrue, subst}
+use Rattle.mc_grammar.specs.Ahead.{every}
+use Rattle.mc_grammar.proofs.Ahead.{chosen}
 use Rattle.mc_sql.specs.Rules.{Rule, statement, explain_option, distinct_option, more_items, source_option, source, where_option, group_option, more_ors, order_option, more_orders, limit_option, offset_option, item, alias_option, order, direction_option, or, more_xors, xor, more_ands, and, more_nots, not, pred, not_option, escape_option, cmp, sum, more_prods, prod, more_negs, neg, coll, more_collates, name_or_binary, prim, string, more_strs, call, set_option, side, or_option, length_option, cut_option}
 use Rattle.mc_sql.proofs.Tables.{number_of}
+
+-- The rules in the order of their numbers.
+abbrev pub rules : List Rule
+rules =
+    statement ∷ explain_option ∷ distinct_option ∷ more_items ∷ source_option ∷ source ∷
+    where_option ∷ group_option ∷ more_ors ∷ order_option ∷ more_orders ∷ limit_option ∷
+    offset_option ∷ item ∷ alias_option ∷ order ∷ direction_option ∷ or ∷ more_xors ∷ xor ∷
+    more_ands ∷ and ∷ more_nots ∷ not ∷ pred ∷ not_option ∷ escape_option ∷ cmp ∷ sum ∷
+    more_prods ∷ prod ∷ more_negs ∷ neg ∷ coll ∷ more_collates ∷ name_or_binary ∷ prim ∷
+    string ∷ more_strs ∷ call ∷ set_option ∷ side ∷ or_option ∷ length_option ∷ cut_option ∷
+    []
 
 -- The rule at a place.
 abbrev at : ℕ → List Rule → Rule
@@ -11,15 +24,7 @@ at (suc n) (r ∷ rs) = at n rs
 
 -- The rule of a number.
 abbrev pub rule_of : ℕ → Rule
-rule_of n =
-    at n (
-    statement ∷ explain_option ∷ distinct_option ∷ more_items ∷ source_option ∷ source ∷
-    where_option ∷ group_option ∷ more_ors ∷ order_option ∷ more_orders ∷ limit_option ∷
-    offset_option ∷ item ∷ alias_option ∷ order ∷ direction_option ∷ or ∷ more_xors ∷ xor ∷
-    more_ands ∷ and ∷ more_nots ∷ not ∷ pred ∷ not_option ∷ escape_option ∷ cmp ∷ sum ∷
-    more_prods ∷ prod ∷ more_negs ∷ neg ∷ coll ∷ more_collates ∷ name_or_binary ∷ prim ∷
-    string ∷ more_strs ∷ call ∷ set_option ∷ side ∷ or_option ∷ length_option ∷ cut_option ∷
-    [])
+rule_of n = at n rules
 
 pub rule_of-number : (r : Rule) → rule_of (number_of r) ≡ r
 rule_of-number statement = refl
@@ -67,3 +72,16 @@ rule_of-number side = refl
 rule_of-number or_option = refl
 rule_of-number length_option = refl
 rule_of-number cut_option = refl
+
+every_at : (test : Rule → Bool) (rs : List Rule) → IsTrue (every test rs)
+    → IsTrue (test statement) → (n : ℕ) → IsTrue (test (at n rs))
+every_at test [] h k n = k
+every_at test (r ∷ rs) h k zero = (chosen (test r) (every test rs) h).0
+every_at test (r ∷ rs) h k (suc n) =
+    every_at test rs (chosen (test r) (every test rs) h).1 k n
+
+-- What holds of each of the list holds of each rule.
+pub of_each : (test : Rule → Bool) → IsTrue (every test rules) → (r : Rule) → IsTrue (test r)
+of_each test h r =
+    subst (λ (q : Rule). IsTrue (test q)) (rule_of-number r)
+    (every_at test rules h (chosen (test statement) _ h).0 (number_of r))

@@ -5,16 +5,18 @@ use Rattle.mc_token.specs.declared.lexeme.Lexeme.{Lexeme}
 use Rattle.mc_token.specs.declared.lexeme.Lexeme.TheVariants.{Word, Name, Int, Str, National, Hex, Sym}
 use Rattle.mc_token.specs.declared.lexeme.Token.{Token}
 use Rattle.mc_token.specs.declared.lexeme.Symbol.{Symbol}
-use Rattle.mc_token.specs.Marks.{mark_text}
-use Rattle.mc_grammar.specs.Decides.{Ahead, every, Meets, Begins, StandsBehind, MeetsWhole, BeginsWhole, Decides}
+use Rattle.mc_grammar.specs.Ahead.{Ahead, every, Meets, Begins, StandsBehind, MeetsWhole, BeginsWhole, Covers}
+use Rattle.mc_grammar.specs.Apart.{ToldApart}
 use Rattle.mc_grammar.proofs.Ahead.{both, chosen}
+use Rattle.mc_token.specs.Marks.{mark_text}
 use Rattle.mc_sql.specs.Classes.{Class, word, mark, name, called, called_otherwise, intro, int, str, national, hex, same_text, is_reserved, is_intro, is_called, is_lexeme_of}
 use Rattle.mc_sql.specs.Rules.{Rule, statement}
 use Rattle.mc_sql.specs.Statements.{statements}
 use Rattle.mc_sql.proofs.Apart.{are_apart, is_within}
-use Rattle.mc_sql.proofs.Tables.{tables, behind, behind_name, number_of}
+use Rattle.mc_sql.proofs.Tables.{tables, behind, behind_call, behind_name, number_of}
 use Rattle.mc_sql.proofs.Numbers.{rule_of, rule_of-number}
-use Rattle.mc_sql.proofs.Decided.{decided}
+use Rattle.mc_sql.proofs.Spellings.{spelled, spelled-spelling}
+use Rattle.mc_sql.proofs.Decided.{covered, distinct}
 
 same_number : (m n : ℕ) → IsTrue (nat_eq m n) → m ≡ n
 same_number m n h = grind (arith, nat_tests)
@@ -33,7 +35,7 @@ same_text-sound (c ∷ cs) (d ∷ ds) h =
     let es : cs ≡ ds = same_text-sound cs ds p.1 in
     cc
 
-same_text-itself : (a : List ℕ) → IsTrue (same_text a a)
+pub same_text-itself : (a : List ℕ) → IsTrue (same_text a a)
 same_text-itself [] = refl
 same_text-itself (c ∷ cs) = rw (number_itself c) (same_text-itself cs)
 
@@ -110,7 +112,7 @@ escape_behind : (a : List ℕ) (tokens : List Token) → IsTrue (same_text a (co
     → Begins statements (Some str ∷ []) tokens
 escape_behind a tokens h b =
     subst (λ (t : Bool). StandsBehind statements tables
-    (elim t [ true ↦ Some (Some str ∷ []) | false ↦ None ]) tokens) h b
+    (elim t [ true ↦ Some (Some str ∷ []) | false ↦ behind_call a ]) tokens) h b
 
 word_or_name : (a w : List ℕ) (tokens : List Token)
     → IsTrue (is_reserved a || same_text a (codes "escape")) → IsTrue (same_text w a)
@@ -143,7 +145,7 @@ apart_word _ _ w tokens h p b q c = cc
 -- No lexeme of another kind is of both classes.
 apart_mark : (k l : Class) (symbol : Symbol) → IsTrue (are_apart k l)
     → IsTrue (is_lexeme_of k (Sym symbol)) → IsTrue (is_lexeme_of l (Sym symbol)) → ⊥
-apart_mark (mark a) (mark o) symbol h p q = two_texts a o (mark_text symbol) h p q
+apart_mark (mark a) (mark o) symbol h p q = two_texts (mark_text a) (mark_text o) (mark_text symbol) h p q
 apart_mark _ _ symbol h p q = cc
 
 apart_quoted : (k l : Class) (text : List ℕ) → IsTrue (are_apart k l)
@@ -184,7 +186,9 @@ apart_lexeme k l (Sym symbol) tokens h p b q c = apart_mark k l symbol h p q
 
 one_class : (k l : Class) → IsTrue (is_within k l) → k ≡ l
 one_class (word a) (word o) h = ap (λ x. word x) (same_text-sound a o h)
-one_class (mark a) (mark o) h = ap (λ x. mark x) (same_text-sound a o h)
+one_class (mark a) (mark o) h =
+    ap (λ x. mark x) (sym (spelled-spelling a)
+    ∙ ap (λ x. spelled x) (same_text-sound (mark_text a) (mark_text o) h) ∙ spelled-spelling o)
 one_class name name h = refl
 one_class called called h = refl
 one_class called_otherwise called_otherwise h = refl
@@ -200,15 +204,18 @@ same_rule r q h =
     let e : number_of r ≡ number_of q = same_number (number_of r) (number_of q) h in
     sym (rule_of-number r) ∙ ap (λ n. rule_of n) e ∙ rule_of-number q
 
--- The next token decides in the grammar of the statements.
-pub decides : Decides statements tables 16
-decides = record {
+-- FIRST and FOLLOW of the grammar of the statements.
+pub covers : Covers statements tables
+covers = record {
   apart_classes = λ k l token tokens h m n. apart_lexeme k l token.kind tokens h m.0 m.1 n.0 n.1;
   inner_classes = λ k l token tokens h m. subst
       (λ (c : Class). MeetsWhole statements tables (Some c) (token ∷ tokens)) (one_class k l h) m;
-  same_rules = same_rule;
-  each_rule = decided;
+  each_alternative = covered;
 }
+
+-- The alternatives of each rule are told apart.
+pub told_apart : ToldApart statements tables 16
+told_apart = record { covers = covers; same_rules = same_rule; each_rule = distinct }
 
 -- The end of the tokens may follow a statement.
 pub ends : BeginsWhole statements tables (tables.follows statement) []

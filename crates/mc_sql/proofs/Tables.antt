@@ -1,7 +1,9 @@
 -- What the rules of the grammar begin with and what follows them: computed sets.
-use Rattle.std.specs.Prelude.{Bool, true, false, ℕ, nat_eq, [], ◌∷◌, codes, Option, Some, None}
+use Rattle.std.specs.Prelude.{Bool, true, false, ℕ, nat_eq, List, [], ◌∷◌, codes, Option, Some, None}
 use Prim.Native.String.{String}
-use Rattle.mc_grammar.specs.Decides.{Ahead, Tables}
+use Rattle.mc_token.specs.declared.lexeme.Symbol.{Symbol as Mark}
+use Rattle.mc_token.specs.declared.lexeme.Symbol.TheVariants.{LeftParen, RightParen, Comma, Dot, Star, Plus, Minus, Percent, Eq, Ne, NeBang, Lt, Le, Gt, Ge, NullEq}
+use Rattle.mc_grammar.specs.Ahead.{Ahead, Tables, any_of}
 use Rattle.mc_sql.specs.Classes.{Class, word, mark, name, called, called_otherwise, intro, int, str, national, hex, same_text}
 use Rattle.mc_sql.proofs.Apart.{are_apart, is_within}
 use Rattle.mc_sql.specs.Rules.{Rule, statement, explain_option, distinct_option, more_items, source_option, source, where_option, group_option, more_ors, order_option, more_orders, limit_option, offset_option, item, alias_option, order, direction_option, or, more_xors, xor, more_ands, and, more_nots, not, pred, not_option, escape_option, cmp, sum, more_prods, prod, more_negs, neg, coll, more_collates, name_or_binary, prim, string, more_strs, call, set_option, side, or_option, length_option, cut_option}
@@ -9,31 +11,31 @@ use Rattle.mc_sql.specs.Rules.{Rule, statement, explain_option, distinct_option,
 abbrev a_word : String → Option Class
 a_word text = Some (word (codes text))
 
-abbrev a_mark : String → Option Class
-a_mark text = Some (mark (codes text))
+abbrev a_mark : Mark → Option Class
+a_mark symbol = Some (mark symbol)
 
 abbrev begins_item : Ahead Class
 begins_item =
-    a_word "not" ∷ a_mark "-" ∷ Some int ∷ a_word "true" ∷ a_word "false" ∷ a_word "null" ∷
-    Some name ∷ a_mark "(" ∷ Some str ∷ Some national ∷ Some hex ∷ Some intro ∷
+    a_word "not" ∷ a_mark Minus ∷ Some int ∷ a_word "true" ∷ a_word "false" ∷ a_word "null" ∷
+    Some name ∷ a_mark LeftParen ∷ Some str ∷ Some national ∷ Some hex ∷ Some intro ∷
     a_word "convert" ∷ a_word "cast" ∷ a_word "count" ∷ a_word "trim" ∷ a_word "substring" ∷
     a_word "weight_string" ∷ Some called ∷ Some called_otherwise ∷ []
 
 abbrev begins_pred : Ahead Class
 begins_pred =
-    a_mark "-" ∷ Some int ∷ a_word "true" ∷ a_word "false" ∷ a_word "null" ∷ Some name ∷
-    a_mark "(" ∷ Some str ∷ Some national ∷ Some hex ∷ Some intro ∷ a_word "convert" ∷
+    a_mark Minus ∷ Some int ∷ a_word "true" ∷ a_word "false" ∷ a_word "null" ∷ Some name ∷
+    a_mark LeftParen ∷ Some str ∷ Some national ∷ Some hex ∷ Some intro ∷ a_word "convert" ∷
     a_word "cast" ∷ a_word "count" ∷ a_word "trim" ∷ a_word "substring" ∷
     a_word "weight_string" ∷ Some called ∷ Some called_otherwise ∷ []
 
 abbrev begins_cmp : Ahead Class
 begins_cmp =
-    a_mark "=" ∷ a_mark "<=>" ∷ a_mark "<>" ∷ a_mark "!=" ∷ a_mark "<" ∷ a_mark "<=" ∷
-    a_mark ">" ∷ a_mark ">=" ∷ []
+    a_mark Eq ∷ a_mark NullEq ∷ a_mark Ne ∷ a_mark NeBang ∷ a_mark Lt ∷ a_mark Le ∷
+    a_mark Gt ∷ a_mark Ge ∷ []
 
 abbrev begins_coll : Ahead Class
 begins_coll =
-    Some int ∷ a_word "true" ∷ a_word "false" ∷ a_word "null" ∷ Some name ∷ a_mark "(" ∷
+    Some int ∷ a_word "true" ∷ a_word "false" ∷ a_word "null" ∷ Some name ∷ a_mark LeftParen ∷
     Some str ∷ Some national ∷ Some hex ∷ Some intro ∷ a_word "convert" ∷ a_word "cast" ∷
     a_word "count" ∷ a_word "trim" ∷ a_word "substring" ∷ a_word "weight_string" ∷
     Some called ∷ Some called_otherwise ∷ []
@@ -45,87 +47,87 @@ begins_call =
 
 abbrev follows_distinct_option : Ahead Class
 follows_distinct_option =
-    a_mark "*" ∷ a_word "not" ∷ a_mark "-" ∷ Some int ∷ a_word "true" ∷ a_word "false" ∷
-    a_word "null" ∷ Some name ∷ a_mark "(" ∷ Some str ∷ Some national ∷ Some hex ∷ Some intro ∷
+    a_mark Star ∷ a_word "not" ∷ a_mark Minus ∷ Some int ∷ a_word "true" ∷ a_word "false" ∷
+    a_word "null" ∷ Some name ∷ a_mark LeftParen ∷ Some str ∷ Some national ∷ Some hex ∷ Some intro ∷
     a_word "convert" ∷ a_word "cast" ∷ a_word "count" ∷ a_word "trim" ∷ a_word "substring" ∷
     a_word "weight_string" ∷ Some called ∷ Some called_otherwise ∷ []
 
 abbrev follows_item : Ahead Class
-follows_item = a_mark "," ∷ a_word "from" ∷ a_word "order" ∷ a_word "limit" ∷ None ∷ []
+follows_item = a_mark Comma ∷ a_word "from" ∷ a_word "order" ∷ a_word "limit" ∷ None ∷ []
 
 abbrev follows_or : Ahead Class
 follows_or =
-    a_word "group" ∷ a_word "order" ∷ a_word "limit" ∷ None ∷ a_mark "," ∷ a_word "as" ∷
-    Some name ∷ a_word "from" ∷ a_word "asc" ∷ a_word "desc" ∷ a_mark ")" ∷ a_word "using" ∷
+    a_word "group" ∷ a_word "order" ∷ a_word "limit" ∷ None ∷ a_mark Comma ∷ a_word "as" ∷
+    Some name ∷ a_word "from" ∷ a_word "asc" ∷ a_word "desc" ∷ a_mark RightParen ∷ a_word "using" ∷
     a_word "for" ∷ []
 
 abbrev follows_xor : Ahead Class
 follows_xor =
-    a_word "or" ∷ a_word "group" ∷ a_word "order" ∷ a_word "limit" ∷ None ∷ a_mark "," ∷
-    a_word "as" ∷ Some name ∷ a_word "from" ∷ a_word "asc" ∷ a_word "desc" ∷ a_mark ")" ∷
+    a_word "or" ∷ a_word "group" ∷ a_word "order" ∷ a_word "limit" ∷ None ∷ a_mark Comma ∷
+    a_word "as" ∷ Some name ∷ a_word "from" ∷ a_word "asc" ∷ a_word "desc" ∷ a_mark RightParen ∷
     a_word "using" ∷ a_word "for" ∷ []
 
 abbrev follows_and : Ahead Class
 follows_and =
     a_word "xor" ∷ a_word "or" ∷ a_word "group" ∷ a_word "order" ∷ a_word "limit" ∷ None ∷
-    a_mark "," ∷ a_word "as" ∷ Some name ∷ a_word "from" ∷ a_word "asc" ∷ a_word "desc" ∷
-    a_mark ")" ∷ a_word "using" ∷ a_word "for" ∷ []
+    a_mark Comma ∷ a_word "as" ∷ Some name ∷ a_word "from" ∷ a_word "asc" ∷ a_word "desc" ∷
+    a_mark RightParen ∷ a_word "using" ∷ a_word "for" ∷ []
 
 abbrev follows_not : Ahead Class
 follows_not =
     a_word "and" ∷ a_word "xor" ∷ a_word "or" ∷ a_word "group" ∷ a_word "order" ∷
-    a_word "limit" ∷ None ∷ a_mark "," ∷ a_word "as" ∷ Some name ∷ a_word "from" ∷
-    a_word "asc" ∷ a_word "desc" ∷ a_mark ")" ∷ a_word "using" ∷ a_word "for" ∷ []
+    a_word "limit" ∷ None ∷ a_mark Comma ∷ a_word "as" ∷ Some name ∷ a_word "from" ∷
+    a_word "asc" ∷ a_word "desc" ∷ a_mark RightParen ∷ a_word "using" ∷ a_word "for" ∷ []
 
 abbrev follows_cmp : Ahead Class
 follows_cmp =
-    a_mark "-" ∷ Some int ∷ a_word "true" ∷ a_word "false" ∷ a_word "null" ∷ Some name ∷
-    a_mark "(" ∷ Some str ∷ Some national ∷ Some hex ∷ Some intro ∷ a_word "convert" ∷
+    a_mark Minus ∷ Some int ∷ a_word "true" ∷ a_word "false" ∷ a_word "null" ∷ Some name ∷
+    a_mark LeftParen ∷ Some str ∷ Some national ∷ Some hex ∷ Some intro ∷ a_word "convert" ∷
     a_word "cast" ∷ a_word "count" ∷ a_word "trim" ∷ a_word "substring" ∷
     a_word "weight_string" ∷ Some called ∷ Some called_otherwise ∷ []
 
 abbrev follows_sum : Ahead Class
 follows_sum =
     a_word "and" ∷ a_word "xor" ∷ a_word "or" ∷ a_word "group" ∷ a_word "order" ∷
-    a_word "limit" ∷ None ∷ a_mark "," ∷ a_word "as" ∷ Some name ∷ a_word "from" ∷
-    a_word "asc" ∷ a_word "desc" ∷ a_mark "=" ∷ a_mark "<=>" ∷ a_mark "<>" ∷ a_mark "!=" ∷
-    a_mark "<" ∷ a_mark "<=" ∷ a_mark ">" ∷ a_mark ">=" ∷ a_word "is" ∷ a_word "not" ∷
-    a_word "like" ∷ a_word "escape" ∷ a_word "in" ∷ a_word "between" ∷ a_mark ")" ∷
+    a_word "limit" ∷ None ∷ a_mark Comma ∷ a_word "as" ∷ Some name ∷ a_word "from" ∷
+    a_word "asc" ∷ a_word "desc" ∷ a_mark Eq ∷ a_mark NullEq ∷ a_mark Ne ∷ a_mark NeBang ∷
+    a_mark Lt ∷ a_mark Le ∷ a_mark Gt ∷ a_mark Ge ∷ a_word "is" ∷ a_word "not" ∷
+    a_word "like" ∷ a_word "escape" ∷ a_word "in" ∷ a_word "between" ∷ a_mark RightParen ∷
     a_word "using" ∷ a_word "for" ∷ []
 
 abbrev follows_prod : Ahead Class
 follows_prod =
-    a_mark "+" ∷ a_mark "-" ∷ a_word "and" ∷ a_word "xor" ∷ a_word "or" ∷ a_word "group" ∷
-    a_word "order" ∷ a_word "limit" ∷ None ∷ a_mark "," ∷ a_word "as" ∷ Some name ∷
-    a_word "from" ∷ a_word "asc" ∷ a_word "desc" ∷ a_mark "=" ∷ a_mark "<=>" ∷ a_mark "<>" ∷
-    a_mark "!=" ∷ a_mark "<" ∷ a_mark "<=" ∷ a_mark ">" ∷ a_mark ">=" ∷ a_word "is" ∷
+    a_mark Plus ∷ a_mark Minus ∷ a_word "and" ∷ a_word "xor" ∷ a_word "or" ∷ a_word "group" ∷
+    a_word "order" ∷ a_word "limit" ∷ None ∷ a_mark Comma ∷ a_word "as" ∷ Some name ∷
+    a_word "from" ∷ a_word "asc" ∷ a_word "desc" ∷ a_mark Eq ∷ a_mark NullEq ∷ a_mark Ne ∷
+    a_mark NeBang ∷ a_mark Lt ∷ a_mark Le ∷ a_mark Gt ∷ a_mark Ge ∷ a_word "is" ∷
     a_word "not" ∷ a_word "like" ∷ a_word "escape" ∷ a_word "in" ∷ a_word "between" ∷
-    a_mark ")" ∷ a_word "using" ∷ a_word "for" ∷ []
+    a_mark RightParen ∷ a_word "using" ∷ a_word "for" ∷ []
 
 abbrev follows_neg : Ahead Class
 follows_neg =
-    a_mark "*" ∷ a_word "div" ∷ a_mark "%" ∷ a_word "mod" ∷ a_mark "+" ∷ a_mark "-" ∷
+    a_mark Star ∷ a_word "div" ∷ a_mark Percent ∷ a_word "mod" ∷ a_mark Plus ∷ a_mark Minus ∷
     a_word "and" ∷ a_word "xor" ∷ a_word "or" ∷ a_word "group" ∷ a_word "order" ∷
-    a_word "limit" ∷ None ∷ a_mark "," ∷ a_word "as" ∷ Some name ∷ a_word "from" ∷
-    a_word "asc" ∷ a_word "desc" ∷ a_mark "=" ∷ a_mark "<=>" ∷ a_mark "<>" ∷ a_mark "!=" ∷
-    a_mark "<" ∷ a_mark "<=" ∷ a_mark ">" ∷ a_mark ">=" ∷ a_word "is" ∷ a_word "not" ∷
-    a_word "like" ∷ a_word "escape" ∷ a_word "in" ∷ a_word "between" ∷ a_mark ")" ∷
+    a_word "limit" ∷ None ∷ a_mark Comma ∷ a_word "as" ∷ Some name ∷ a_word "from" ∷
+    a_word "asc" ∷ a_word "desc" ∷ a_mark Eq ∷ a_mark NullEq ∷ a_mark Ne ∷ a_mark NeBang ∷
+    a_mark Lt ∷ a_mark Le ∷ a_mark Gt ∷ a_mark Ge ∷ a_word "is" ∷ a_word "not" ∷
+    a_word "like" ∷ a_word "escape" ∷ a_word "in" ∷ a_word "between" ∷ a_mark RightParen ∷
     a_word "using" ∷ a_word "for" ∷ []
 
 abbrev follows_name_or_binary : Ahead Class
 follows_name_or_binary =
-    a_word "collate" ∷ a_mark "*" ∷ a_word "div" ∷ a_mark "%" ∷ a_word "mod" ∷ a_mark "+" ∷
-    a_mark "-" ∷ a_word "and" ∷ a_word "xor" ∷ a_word "or" ∷ a_word "group" ∷ a_word "order" ∷
-    a_word "limit" ∷ None ∷ a_mark "," ∷ a_word "as" ∷ Some name ∷ a_word "from" ∷
-    a_word "asc" ∷ a_word "desc" ∷ a_mark "=" ∷ a_mark "<=>" ∷ a_mark "<>" ∷ a_mark "!=" ∷
-    a_mark "<" ∷ a_mark "<=" ∷ a_mark ">" ∷ a_mark ">=" ∷ a_word "is" ∷ a_word "not" ∷
-    a_word "like" ∷ a_word "escape" ∷ a_word "in" ∷ a_word "between" ∷ a_mark ")" ∷
+    a_word "collate" ∷ a_mark Star ∷ a_word "div" ∷ a_mark Percent ∷ a_word "mod" ∷ a_mark Plus ∷
+    a_mark Minus ∷ a_word "and" ∷ a_word "xor" ∷ a_word "or" ∷ a_word "group" ∷ a_word "order" ∷
+    a_word "limit" ∷ None ∷ a_mark Comma ∷ a_word "as" ∷ Some name ∷ a_word "from" ∷
+    a_word "asc" ∷ a_word "desc" ∷ a_mark Eq ∷ a_mark NullEq ∷ a_mark Ne ∷ a_mark NeBang ∷
+    a_mark Lt ∷ a_mark Le ∷ a_mark Gt ∷ a_mark Ge ∷ a_word "is" ∷ a_word "not" ∷
+    a_word "like" ∷ a_word "escape" ∷ a_word "in" ∷ a_word "between" ∷ a_mark RightParen ∷
     a_word "using" ∷ a_word "for" ∷ []
 
 abbrev follows_side : Ahead Class
 follows_side =
-    a_word "not" ∷ a_mark "-" ∷ Some int ∷ a_word "true" ∷ a_word "false" ∷ a_word "null" ∷
-    Some name ∷ a_mark "(" ∷ Some str ∷ Some national ∷ Some hex ∷ Some intro ∷
+    a_word "not" ∷ a_mark Minus ∷ Some int ∷ a_word "true" ∷ a_word "false" ∷ a_word "null" ∷
+    Some name ∷ a_mark LeftParen ∷ Some str ∷ Some national ∷ Some hex ∷ Some intro ∷
     a_word "convert" ∷ a_word "cast" ∷ a_word "count" ∷ a_word "trim" ∷ a_word "substring" ∷
     a_word "weight_string" ∷ Some called ∷ Some called_otherwise ∷ a_word "from" ∷ []
 
@@ -134,16 +136,16 @@ abbrev pub begins : Rule → Ahead Class
 begins statement = a_word "select" ∷ a_word "explain" ∷ []
 begins explain_option = a_word "explain" ∷ []
 begins distinct_option = a_word "distinct" ∷ []
-begins more_items = a_mark "," ∷ []
+begins more_items = a_mark Comma ∷ []
 begins source_option = a_word "from" ∷ []
 begins source = a_word "from" ∷ []
 begins where_option = a_word "where" ∷ []
 begins group_option = a_word "group" ∷ []
-begins more_ors = a_mark "," ∷ []
+begins more_ors = a_mark Comma ∷ []
 begins order_option = a_word "order" ∷ []
-begins more_orders = a_mark "," ∷ []
+begins more_orders = a_mark Comma ∷ []
 begins limit_option = a_word "limit" ∷ []
-begins offset_option = a_mark "," ∷ a_word "offset" ∷ []
+begins offset_option = a_mark Comma ∷ a_word "offset" ∷ []
 begins item = begins_item
 begins alias_option = a_word "as" ∷ Some name ∷ []
 begins order = begins_item
@@ -160,9 +162,9 @@ begins not_option = a_word "not" ∷ []
 begins escape_option = a_word "escape" ∷ []
 begins cmp = begins_cmp
 begins sum = begins_pred
-begins more_prods = a_mark "+" ∷ a_mark "-" ∷ []
+begins more_prods = a_mark Plus ∷ a_mark Minus ∷ []
 begins prod = begins_pred
-begins more_negs = a_mark "*" ∷ a_word "div" ∷ a_mark "%" ∷ a_word "mod" ∷ []
+begins more_negs = a_mark Star ∷ a_word "div" ∷ a_mark Percent ∷ a_word "mod" ∷ []
 begins neg = begins_pred
 begins coll = begins_coll
 begins more_collates = a_word "collate" ∷ []
@@ -187,15 +189,15 @@ follows source_option = a_word "order" ∷ a_word "limit" ∷ None ∷ []
 follows source = a_word "order" ∷ a_word "limit" ∷ None ∷ []
 follows where_option = a_word "group" ∷ a_word "order" ∷ a_word "limit" ∷ None ∷ []
 follows group_option = a_word "order" ∷ a_word "limit" ∷ None ∷ []
-follows more_ors = a_word "order" ∷ a_word "limit" ∷ None ∷ a_mark ")" ∷ []
+follows more_ors = a_word "order" ∷ a_word "limit" ∷ None ∷ a_mark RightParen ∷ []
 follows order_option = a_word "limit" ∷ None ∷ []
 follows more_orders = a_word "limit" ∷ None ∷ []
 follows limit_option = None ∷ []
 follows offset_option = None ∷ []
 follows item = follows_item
 follows alias_option = follows_item
-follows order = a_mark "," ∷ a_word "limit" ∷ None ∷ []
-follows direction_option = a_mark "," ∷ a_word "limit" ∷ None ∷ []
+follows order = a_mark Comma ∷ a_word "limit" ∷ None ∷ []
+follows direction_option = a_mark Comma ∷ a_word "limit" ∷ None ∷ []
 follows or = follows_or
 follows more_xors = follows_or
 follows xor = follows_xor
@@ -219,26 +221,44 @@ follows prim = follows_name_or_binary
 follows string = follows_name_or_binary
 follows more_strs = follows_name_or_binary
 follows call = follows_name_or_binary
-follows set_option = a_mark ")" ∷ []
+follows set_option = a_mark RightParen ∷ []
 follows side = follows_side
 follows or_option = a_word "from" ∷ []
-follows length_option = a_mark ")" ∷ []
-follows cut_option = a_mark ")" ∷ []
+follows length_option = a_mark RightParen ∷ []
+follows cut_option = a_mark RightParen ∷ []
 
--- What stands behind a name and behind the word ESCAPE.
+-- What stands behind a name.
 abbrev pub behind_name : Ahead Class
 behind_name =
-    a_word "where" ∷ a_word "group" ∷ a_word "order" ∷ a_word "limit" ∷ None ∷ a_mark "," ∷
-    a_word "from" ∷ a_word "collate" ∷ a_mark "*" ∷ a_word "div" ∷ a_mark "%" ∷ a_word "mod" ∷
-    a_mark "+" ∷ a_mark "-" ∷ a_word "and" ∷ a_word "xor" ∷ a_word "or" ∷ a_word "as" ∷
-    Some name ∷ a_word "asc" ∷ a_word "desc" ∷ a_mark "=" ∷ a_mark "<=>" ∷ a_mark "<>" ∷
-    a_mark "!=" ∷ a_mark "<" ∷ a_mark "<=" ∷ a_mark ">" ∷ a_mark ">=" ∷ a_word "is" ∷
+    a_word "where" ∷ a_word "group" ∷ a_word "order" ∷ a_word "limit" ∷ None ∷ a_mark Comma ∷
+    a_word "from" ∷ a_word "collate" ∷ a_mark Star ∷ a_word "div" ∷ a_mark Percent ∷ a_word "mod" ∷
+    a_mark Plus ∷ a_mark Minus ∷ a_word "and" ∷ a_word "xor" ∷ a_word "or" ∷ a_word "as" ∷
+    Some name ∷ a_word "asc" ∷ a_word "desc" ∷ a_mark Eq ∷ a_mark NullEq ∷ a_mark Ne ∷
+    a_mark NeBang ∷ a_mark Lt ∷ a_mark Le ∷ a_mark Gt ∷ a_mark Ge ∷ a_word "is" ∷
     a_word "not" ∷ a_word "like" ∷ a_word "escape" ∷ a_word "in" ∷ a_word "between" ∷
-    a_mark "." ∷ a_mark ")" ∷ a_word "using" ∷ a_word "for" ∷ []
+    a_mark Dot ∷ a_mark RightParen ∷ a_word "using" ∷ a_word "for" ∷ []
+
+-- What stands behind a name in a call, an introducer, and the words of the grammar: the words that
+-- begin a call with arguments of their own, and ESCAPE.
+abbrev is_call_word : List ℕ → Bool
+is_call_word text =
+    any_of (λ word. same_text text word) (
+    codes "convert" ∷ codes "cast" ∷ codes "count" ∷ codes "trim" ∷ codes "substring" ∷
+    codes "weight_string" ∷ [])
+
+abbrev pub behind_call : List ℕ → Option (Ahead Class)
+behind_call text = elim (is_call_word text) [ true ↦ Some (a_mark LeftParen ∷ []) | false ↦ None ]
 
 abbrev pub behind : Class → Option (Ahead Class)
 behind name = Some behind_name
-behind (word text) = elim (same_text text (codes "escape")) [ true ↦ Some (Some str ∷ []) | false ↦ None ]
+behind (word text) =
+    elim (same_text text (codes "escape")) [
+      | true ↦ Some (Some str ∷ [])
+      | false ↦ behind_call text
+    ]
+behind called = Some (a_mark LeftParen ∷ [])
+behind called_otherwise = Some (a_mark LeftParen ∷ [])
+behind intro = Some (Some str ∷ Some hex ∷ [])
 behind _ = None
 
 -- The rules that may read no token.

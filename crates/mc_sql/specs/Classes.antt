@@ -1,6 +1,6 @@
 -- What a token may be in the grammar of the statements: MySQL 8.0 manual, 9.2 and 9.3.
 use Rattle.std.specs.Prelude.{Bool, true, false, not, ◌&&◌, ◌||◌, ℕ, List, [], ◌∷◌, codes, nat_eq}
-use Rattle.mc_grammar.specs.Decides.{any_of}
+use Rattle.mc_grammar.specs.Ahead.{any_of}
 use Rattle.mc_token.specs.declared.lexeme.Lexeme.{Lexeme}
 use Rattle.mc_token.specs.declared.lexeme.Lexeme.TheVariants.{Word, Name, Int, Str, National, Hex, Sym}
 use Rattle.mc_token.specs.Marks.{mark_text}
@@ -48,7 +48,7 @@ is_called text = same_text text (codes "mod") ||
 -- its arguments alone, the same without `weight_string`, INTRO, and the literals.
 pub data Class : Type 0 where
   word : List ℕ → Class
-  mark : List ℕ → Class
+  mark : Symbol → Class
   name : Class
   called : Class
   called_otherwise : Class
@@ -61,7 +61,7 @@ pub data Class : Type 0 where
 -- The lexeme is of the class.
 abbrev pub is_lexeme_of : Class → Lexeme → Bool
 is_lexeme_of (word text) (Word w) = same_text w text
-is_lexeme_of (mark text) (Sym symbol) = same_text (mark_text symbol) text
+is_lexeme_of (mark symbol) (Sym other) = same_text (mark_text other) (mark_text symbol)
 is_lexeme_of name (Word w) = not (is_reserved w)
 is_lexeme_of name (Name w) = true
 is_lexeme_of called (Word w) = is_called w

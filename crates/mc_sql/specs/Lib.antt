@@ -1,3 +1,5 @@
 pub mod Classes
 pub mod Rules
 pub mod Statements
+pub mod Nest
+pub mod Completions

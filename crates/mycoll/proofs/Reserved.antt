@@ -2,7 +2,7 @@
 use Rattle.std.proofs.Common.{◌≡◌, ℕ, Bool, true, false, ◌&&◌, ◌||◌, nat_eq, List, [], ◌∷◌, refl, ap}
 use Rattle.std.specs.List.{list_any}
 use lib.Pointwise.{pointwise}
-use Rattle.mc_grammar.specs.Decides.{any_of}
+use Rattle.mc_grammar.specs.Ahead.{any_of}
 use Rattle.mc_sql.specs.Classes.{same_text}
 
 -- Two tests of texts agree.

@@ -1,5 +1,21 @@
--- Grammars in which the next token decides: FIRST and FOLLOW, Aho, Lam, Sethi and Ullman, Compilers, 4.4.
-use Rattle.std.specs.Prelude.{◌≡◌, ◌⊎◌, ◌&&◌, ◌||◌, ℕ, zero, suc, Bool, true, false, not, List, [], ◌∷◌, ◌++◌, Option, Some, None, IsTrue}
+-- What may stand next: FIRST and FOLLOW, Aho, Lam, Sethi and Ullman, Compilers, 4.4.
+use Rattle.std.specs.Prelude.{
+  ◌⊎◌,
+  ◌&&◌,
+  ◌||◌,
+  Bool,
+  true,
+  false,
+  not,
+  List,
+  [],
+  ◌∷◌,
+  ◌++◌,
+  Option,
+  Some,
+  None,
+  IsTrue,
+}
 use Rattle.mc_grammar.specs.Grammar.{Grammar, Symbol, one, rule}
 
 -- What may stand next: tokens of a class, or None for the end of the tokens.
@@ -112,39 +128,6 @@ module _ {K R A T : Type 0} (g : Grammar K R A T) (t : Tables K R) where
   BeginsWhole [] tokens = ⊥
   BeginsWhole (k ∷ ks) tokens = MeetsWhole k tokens ⊎ BeginsWhole ks tokens
 
-  -- One step of the comparison below: tokens of two classes are taken for the same token, a rule
-  -- that both lists begin with for the same tree, and another rule is replaced by its alternatives.
-  abbrev pub step : (List (Symbol K R) → Ahead K → List (Symbol K R) → Ahead K → Bool)
-      → List (Symbol K R) → Ahead K → List (Symbol K R) → Ahead K → Bool
-  step apart (one k ∷ ss) after (one l ∷ zz) after' = apart ss after zz after'
-  step apart (rule r ∷ ss) after (rule q ∷ zz) after' =
-      elim (t.are_same r q && (is_followed t (rule r ∷ ss) after && is_followed t
-      (rule q ∷ zz) after')) [
-        | true ↦ apart ss after zz after'
-        | false ↦ every
-            (λ a. apart (g.symbols a ++ ss) after (rule q ∷ zz) after') (g.alternatives r)
-      ]
-  step apart (rule r ∷ ss) after zz after' =
-      every (λ a. apart (g.symbols a ++ ss) after zz after') (g.alternatives r)
-  step apart ss after (rule q ∷ zz) after' =
-      every (λ b. apart ss after (g.symbols b ++ zz) after') (g.alternatives q)
-  step apart ss after zz after' = false
-
-  -- The two lists of symbols, each with what may stand after it, read no tokens in common.
-  abbrev pub are_distinct : ℕ → List (Symbol K R) → Ahead K → List (Symbol K R) → Ahead K → Bool
-  are_distinct zero ss after zz after' = false
-  are_distinct (suc depth) ss after zz after' =
-      elim (exclude t (starts t ss after) (starts t zz after') &&
-      (is_followed t ss after && is_followed t zz after'))
-      [ true ↦ true | false ↦ step (are_distinct depth) ss after zz after' ]
-
-  -- No two of the alternatives read tokens in common.
-  abbrev pub all_distinct : ℕ → Ahead K → List A → Bool
-  all_distinct depth after [] = true
-  all_distinct depth after (a ∷ as') =
-      every (λ b. are_distinct depth (g.symbols a) after (g.symbols b) after) as' && all_distinct
-      depth after as'
-
   -- The tables say of an alternative of a rule no less than holds of it.
   abbrev pub is_covered : R → A → Bool
   is_covered r a =
@@ -152,16 +135,10 @@ module _ {K R A T : Type 0} (g : Grammar K R A T) (t : Tables K R) where
       && ((not (may_be_none t (g.symbols a)) || t.may_be_empty r) && is_followed t (g.symbols a)
       (t.follows r))
 
-  -- The next token decides which alternative of the rule is read.
-  abbrev pub is_decided : ℕ → R → Bool
-  is_decided depth r = every (λ a. is_covered r a) (g.alternatives r) && all_distinct depth
-      (t.follows r) (g.alternatives r)
-
-  -- The next token decides in each rule, with tables that say what is so.
-  pub record Decides (depth : ℕ) : Type 0 where
+  -- The tables say no less than holds of the grammar.
+  pub record Covers : Type 0 where
     pub apart_classes : (k l : K) (token : T) (tokens : List T) → IsTrue (t.are_apart k l)
         → MeetsWhole (Some k) (token ∷ tokens) → MeetsWhole (Some l) (token ∷ tokens) → ⊥
     pub inner_classes : (k l : K) (token : T) (tokens : List T) → IsTrue (t.is_within k l)
         → MeetsWhole (Some k) (token ∷ tokens) → MeetsWhole (Some l) (token ∷ tokens)
-    pub same_rules : (r q : R) → IsTrue (t.are_same r q) → r ≡ q
-    pub each_rule : (r : R) → IsTrue (is_decided depth r)
+    pub each_alternative : (r : R) → IsTrue (every (λ a. is_covered r a) (g.alternatives r))
