@@ -178,7 +178,7 @@ Among_ascending (x ∷ xs) z = (
       (⊎_elim (λ e. inl e) (λ a. inr ((Among_ascending xs z).1 a)) h),
 )
 
--- Of two rising lists with the same members the first ones are the same: each stands before all others.
+-- Of two rising lists with the same members the first ones are the same.
 heads_same : (x y : List ℕ) (xs ys : List (List ℕ)) → Rises (x ∷ xs) → Rises (y ∷ ys) →
     Among x (y ∷ ys) → Among y (x ∷ xs) → x ≡ y
 heads_same x y xs ys rx ry (inl e) h = e

@@ -1,4 +1,4 @@
--- The binary collations: MySQL 8.0 manual, 10.8.5, "The binary Collation Compared to _bin Collations".
+-- The binary collations (MySQL 8.0 manual, "The binary Collation Compared to _bin Collations").
 use Rattle.std.specs.Prelude.{ℕ, ◌+◌, Bool, true, false, if◌then◌else◌, List, [], ◌∷◌, Option, Some}
 use Rattle.std.specs.Prelude.{map}
 use Rattle.mc_charset.specs.declared.charset.Charset.{Charset}

@@ -59,7 +59,7 @@ pub record IsCut (m : Meaning) (k : ℕ) (codes : List ℕ) : Type 0 where
   pub none_or_tail : (tail ≡ []) ⊎ Contains m.tails tail
   pub enough : (m.floor k ≤ length kept) ⊎ (rest ≡ [])
 
--- Cut law: the first k characters keep `floor k` of the first weights or more, or all, and add a tail at most.
+-- Cut law: k characters keep `floor k` first weights or more, or all, and add a tail at most.
 abbrev pub KeepsCut : Meaning → Type 0
 KeepsCut m = (k : ℕ) (codes : List ℕ) → AreCharsOf m.charset codes → IsCut m k codes
 

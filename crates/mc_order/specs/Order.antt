@@ -1,4 +1,4 @@
--- The order of two weight lists: MySQL 8.0 manual, 10.8.5, "Trailing Space Handling in Comparisons".
+-- The order of weight lists: MySQL 8.0 manual, 10.8.5, "Trailing Space Handling in Comparisons".
 use Rattle.std.specs.Prelude.{◌≡◌, ℕ, zero, suc, ◌<◌, List, [], ◌∷◌}
 use Rattle.std.specs.declared.cmp.Ordering.{Ordering}
 use Rattle.std.specs.declared.cmp.Ordering.TheVariants.{Less, Equal, Greater}

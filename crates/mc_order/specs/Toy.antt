@@ -9,7 +9,7 @@ use Rattle.mc_order.specs.Meaning.{Meaning}
 abbrev pub folded : ℕ → ℕ
 folded code = if nat_le 0x61 code && nat_le code 0x7A then code - 0x20 else code
 
--- The weights of a capital: - has none, & those of ET, á (E1) the first of a and a second of its own.
+-- The weights of a capital: - has none, & those of ET, á (E1) the first of a and its own second.
 abbrev pub capital_weights : ℕ → ℕ → List ℕ
 capital_weights level code =
     if code == 0x2D then [] else

@@ -7,8 +7,8 @@
 //! `specs/Consequences.antt` what code that is generic in it may rest on.
 //!
 //! Read `pad`, `lists`, `collation`, `book`; then `stream`, by which each kind compares without a
-//! list; `char_weights`, `shared` and `blocks`, by which a kind of one weight a character does; then
-//! `bin` and `bin_number`, the nine built-in collations:
+//! list; `char_weights`, `shared` and `blocks`, by which a kind of one weight a character does;
+//! then `bin` and `bin_number`, the nine built-in collations:
 //! `BinCollation::new(CollId(4)).compare(a, b)` is the order of two utf8mb4 texts by code points.
 //! The smallest kind that has contractions is that of the tests, `toy`.
 #![tactic(auto)]

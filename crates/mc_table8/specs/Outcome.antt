@@ -1,4 +1,4 @@
--- What the text of a table gives, the table or its first fault: MySQL 8.0 manual, 10.14.3 and 10.10.1.
+-- What the text of a table gives, or its first fault: MySQL 8.0 manual, 10.14.3 and 10.10.1.
 use Rattle.std.specs.Prelude.{◌≡◌, ℕ, ⊤, List, Option, Some, None, is_none, option_map}
 use Rattle.std.specs.Prelude.{Result, Ok, Err, map, position}
 use Rattle.std.specs.List.{range_with_len}
