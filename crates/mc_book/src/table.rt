@@ -4,10 +4,8 @@ ghost use Rattle.mc_base.specs.Results.{result_and_then};
 ghost use Rattle.mc_book.specs.Any.{any_meaning};
 ghost use Rattle.mc_book.specs.Meanings.{any_set};
 ghost use Rattle.mc_book.specs.BookOutcome.{bytes_outcome, codes_outcome, table_refusal};
-ghost use Rattle.mc_table8.specs.Outcome.{table8_outcome, general_outcome};
 ghost use Rattle.mc_charset.specs.Names.{is_unicode_set};
-ghost use Rattle.mc_table8.specs.GeneralMeaning.{weights_meaning};
-ghost use Rattle.mc_table8.specs.Table8Meaning.{is_byte_set, entries_meaning};
+ghost use Rattle.mc_table8.specs.Table8Meaning.{is_byte_set};
 
 use crate::AnyCollation;
 use crate::fault::{BookFault, table_refusal};

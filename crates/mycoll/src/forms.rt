@@ -1,7 +1,6 @@
 ghost use Rattle.mc_catalog.specs.Lawful.{IsLawful};
 ghost use Rattle.mc_catalog.specs.LookUp.{collation_set};
 ghost use Rattle.mc_charset.specs.Chars.{IsWellFormed};
-ghost use Rattle.mc_order.specs.Meaning.{Meaning};
 ghost use Rattle.mycoll.specs.Forms.{
   equality,
   named_collation,
@@ -24,7 +23,7 @@ ghost use Rattle.mycoll.specs.Values.{literal_set};
 ghost use Rattle.mycoll.specs.World.{AreSound, connection_set, state_of, world_of};
 ghost use Rattle.std.specs.Bool.{OnTrue};
 ghost use Rattle.std.specs.Option.{is_some};
-ghost use Rattle.std.specs.Prelude.{◌≡◌, ◌<◌, IfOk, IfSome, IsTrue, length, option_map};
+ghost use Rattle.std.specs.Prelude.{◌≡◌, ◌<◌, IfOk, IfSome, IsTrue, length};
 
 use crate::literal::Literal;
 use crate::messages::{not_built, unknown_collation, unknown_set, wrong_collation};

@@ -1,5 +1,5 @@
-ghost use Rattle.std.specs.Prelude.{◌≡◌, ◌≤◌, ◌+◌, ◌++◌, length, take, IfOk, IfSome};
-ghost use Rattle.std.specs.List.{prefix_len, take_while};
+ghost use Rattle.std.specs.Prelude.{◌≡◌, ◌≤◌, ◌+◌, ◌++◌, length, IfOk, IfSome};
+ghost use Rattle.std.specs.List.{prefix_len};
 ghost use Rattle.mc_token.specs.TokenLaws.{HaveUtf8Texts};
 ghost use Rattle.mycoll.specs.Literals.{
   is_string,

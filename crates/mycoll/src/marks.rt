@@ -9,7 +9,6 @@ ghost use Rattle.mycoll.specs.Queries.{
   is_right_paren,
   after,
   after_call,
-  token_name,
   name_front,
   are_one_close,
   are_two_closes,

@@ -1,7 +1,6 @@
 ghost use Rattle.std.specs.Option.{option_copied};
 ghost use Rattle.std.specs.Prelude.{◌≡◌, ◌≤◌, IfOk, IfSome, IsUtf8, length};
 ghost use Rattle.mc_base.specs.FileOutcome.{greatest_file, FileCause, HasOutcome};
-ghost use Rattle.mc_book.specs.Meanings.{meaning_at, meanings};
 ghost use Rattle.mc_catalog.specs.Lawful.{IsLawful};
 ghost use Rattle.mycoll.specs.Opened.{IsSound, accepted_of};
 ghost use Rattle.mycoll.specs.Outcome.{with_book, with_script, files_outcome};

@@ -1,23 +1,18 @@
 ghost use Rattle.std.specs.Prelude.{◌≡◌, ◌≤◌, IfOk, IfSome, length};
-ghost use Rattle.mc_token.specs.TokenLaws.{AreInOrder, HaveUtf8Texts};
+ghost use Rattle.mc_token.specs.TokenLaws.{HaveUtf8Texts};
 ghost use Rattle.mycoll.specs.Literals.{HasUtf8};
 ghost use Rattle.mycoll.specs.Queries.{
   operand_front,
-  operand_of,
   is_plain,
   are_compared,
   compared,
   comparison_of,
-  converted_to,
   hex_of_literal,
   hex_of_conversion,
-  hex_of,
   form_of,
   last_end,
   header_of,
   query_of,
-  after,
-  is_word,
   IsRead,
 };
 

@@ -1,6 +1,6 @@
 ghost use Rattle.mc_charset.specs.Chars.{IsWellFormed};
 ghost use Rattle.mc_charset.specs.declared.charset.Charset.TheVariants.{Utf8mb4, Binary};
-ghost use Rattle.mc_convert.specs.Conversion.{converted_text, is_binary, taken_for};
+ghost use Rattle.mc_convert.specs.Conversion.{converted_text, taken_for};
 ghost use Rattle.mycoll.specs.Literals.{HasUtf8};
 ghost use Rattle.mycoll.specs.Unanswered.{IsWanted};
 ghost use Rattle.mycoll.specs.Values.{
@@ -13,7 +13,7 @@ ghost use Rattle.mycoll.specs.Values.{
   hex_digits,
   hex_value,
 };
-ghost use Rattle.std.specs.Prelude.{◌≡◌, ◌<◌, ◌++◌, ◌&&◌, not, IfOk, IfSome, IsUtf8};
+ghost use Rattle.std.specs.Prelude.{◌≡◌, ◌<◌, ◌&&◌, IfOk, IfSome, IsUtf8};
 
 use crate::literal::Literal;
 use crate::messages::invalid_string;
