@@ -1,21 +1,6 @@
 -- What may stand next: FIRST and FOLLOW, Aho, Lam, Sethi and Ullman, Compilers, 4.4.
-use Rattle.std.specs.Prelude.{
-  ◌⊎◌,
-  ◌&&◌,
-  ◌||◌,
-  Bool,
-  true,
-  false,
-  not,
-  List,
-  [],
-  ◌∷◌,
-  ◌++◌,
-  Option,
-  Some,
-  None,
-  IsTrue,
-}
+use Rattle.std.specs.Prelude.{◌⊎◌, ◌&&◌, ◌||◌, Bool, true, false, not, List, [], ◌∷◌, ◌++◌}
+use Rattle.std.specs.Prelude.{Option, Some, None, IsTrue}
 use Rattle.mc_grammar.specs.Grammar.{Grammar, Symbol, one, rule}
 
 -- What may stand next: tokens of a class, or None for the end of the tokens.

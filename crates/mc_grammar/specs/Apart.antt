@@ -1,7 +1,8 @@
 -- Grammars whose alternatives are told apart: no two of one rule read one whole list of tokens. The
 -- comparison goes in lock step; where FIRST and FOLLOW exclude each other it ends, as in Aho, Lam,
 -- Sethi and Ullman, Compilers, 4.4.
-use Rattle.std.specs.Prelude.{◌≡◌, ◌&&◌, ℕ, zero, suc, Bool, true, false, List, [], ◌∷◌, ◌++◌, IsTrue}
+use Rattle.std.specs.Prelude.{◌≡◌, ◌&&◌, ℕ, zero, suc, Bool, true, false, IsTrue}
+use Rattle.std.specs.Prelude.{List, [], ◌∷◌, ◌++◌}
 use Rattle.mc_grammar.specs.Grammar.{Grammar, Symbol, one, rule}
 use Rattle.mc_grammar.specs.Ahead.{Ahead, Tables, every, exclude, starts, is_followed, Covers}
 

@@ -15,6 +15,7 @@ completion c (one k ∷ symbols) = c.token_of k ∷ completion c symbols
 completion c (rule r ∷ symbols) = c.tokens_of_rule r ++ completion c symbols
 
 -- The completions are read.
-pub record Complete {K R A S T V : Type 0} (l : Language K R A S T V) (c : Completions K R T) : Type 0 where
+pub record Complete {K R A S T V : Type 0} (l : Language K R A S T V)
+    (c : Completions K R T) : Type 0 where
   pub each_class : (k : K) → IsTrue (l.grammar.is_of k (c.token_of k))
   pub each_rule : (r : R) → Reads l (rule r ∷ []) (c.tokens_of_rule r)

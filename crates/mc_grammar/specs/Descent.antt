@@ -24,8 +24,8 @@ module _ {K R A S T V : Type 0} (l : Language K R A S T V) where
   Alike (suc look) (x ∷ marked) [] = ⊥
   Alike (suc look) (x ∷ marked) (token ∷ tokens) = Stands token x × Alike look marked tokens
 
-  -- The front of the tokens leads from symbols to those that are left, where the first `look` of the
-  -- rest were looked at: who reads on from there reads by the latter, and the other way round.
+  -- The front of the tokens leads from symbols to those that are left, where the first `look` of
+  -- the rest were looked at: who reads on from there reads by the latter, and the other way round.
   pub record Leads (after : Ahead K) (look : ℕ) (symbols left : List (Symbol K R))
       (front rest : List S) : Type 0 where
     pub takes : (later : List (Symbol K R)) (w : List T) → Allows after later → Alike look w rest
@@ -34,13 +34,15 @@ module _ {K R A S T V : Type 0} (l : Language K R A S T V) where
         → Reads l (symbols ++ later) (map l.bound front ++ w)
 
   -- The front can be read on, but not with the next token, or not to the end.
-  pub record Stuck (after : Ahead K) (symbols : List (Symbol K R)) (front rest : List S) : Type 0 where
+  pub record Stuck (after : Ahead K) (symbols : List (Symbol K R))
+      (front rest : List S) : Type 0 where
     pub stops : (later : List (Symbol K R)) (w : List T) → Allows after later → Alike 1 w rest
         → Reads l (symbols ++ later) (map l.free front ++ w) → ⊥
     pub goes : (w : List T) × Reads l symbols (map l.bound front ++ w)
 
   -- The front can be read on, and with the next token only where that is free.
-  pub record Deep (after : Ahead K) (symbols : List (Symbol K R)) (front : List S) (token : S) : Type 0 where
+  pub record Deep (after : Ahead K) (symbols : List (Symbol K R)) (front : List S)
+      (token : S) : Type 0 where
     pub stops : (later : List (Symbol K R)) (w : List T) → Allows after later
         → Reads l (symbols ++ later) (map l.bound front ++ (l.bound token ∷ w)) → ⊥
     pub goes : (w : List T) × Reads l symbols (map l.bound front ++ w)

@@ -13,7 +13,8 @@ module _ {K R A T : Type 0} (g : Grammar K R A T) where
     pub reads : IsReading g r (tokens ++ later) reading
 
   -- Some tokens behind these make one in which none of these stands deeper than the limit.
-  pub record GoesOnWithin (deeper : A → List Bool) (limit : ℕ) (r : R) (tokens : List T) : Type 0 where
+  pub record GoesOnWithin (deeper : A → List Bool) (limit : ℕ) (r : R)
+      (tokens : List T) : Type 0 where
     pub later : List T
     pub reading : Forest A T
     pub reads : IsReading g r (tokens ++ later) reading

@@ -1,5 +1,5 @@
--- How deep the tokens of a forest stand, where some symbols of an alternative stand one level deeper
--- than the alternative.
+-- How deep the tokens of a forest stand, where some symbols of an alternative stand one level
+-- deeper than the alternative.
 use Rattle.std.specs.Prelude.{◌≡◌, ℕ, suc, ◌≤◌, Bool, true, false, List, [], ◌∷◌, ◌++◌}
 use Rattle.mc_grammar.specs.Reading.{Forest, bare, leaf, node}
 

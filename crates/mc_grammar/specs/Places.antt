@@ -1,6 +1,7 @@
 -- Places inside the alternatives of a rule, where some of their symbols are read and some are left:
 -- the items of Aho, Lam, Sethi and Ullman, Compilers, 4.6.2.
-use Rattle.std.specs.Prelude.{◌≡◌, ◌⊎◌, ◌&&◌, not, ℕ, Bool, true, false, List, [], ◌∷◌, ◌++◌, Option, Some, None, map, IsTrue}
+use Rattle.std.specs.Prelude.{◌≡◌, ◌⊎◌, ◌&&◌, not, ℕ, Bool, true, false, IsTrue}
+use Rattle.std.specs.Prelude.{List, [], ◌∷◌, ◌++◌, Option, Some, None, map}
 use Rattle.mc_grammar.specs.Grammar.{Symbol, one, rule}
 use Rattle.mc_grammar.specs.Reading.{IsOneOf}
 use Rattle.mc_grammar.specs.Ahead.{Ahead, every, any_of, is_part, starts, is_followed, MeetsWhole}
@@ -112,8 +113,8 @@ module _ {K R A S T V : Type 0} (l : Language K R A S T V) where
   EachReached r front values (p ∷ ps) =
       IsReached r front values p × EachReached r front values ps
 
-  -- Inside a rule, whose first tokens are read, with these values: who reads on reads on from one of
-  -- the places, where the first `look` of the rest were looked at.
+  -- Inside a rule, whose first tokens are read, with these values: who reads on reads on from one
+  -- of the places, where the first `look` of the rest were looked at.
   pub record Inside (after : Ahead K) (look : ℕ) (r : R) (places : List (Place K R A))
       (values : List V) (tokens front rest : List S) : Type 0 where
     pub split : tokens ≡ front ++ rest
@@ -123,7 +124,8 @@ module _ {K R A S T V : Type 0} (l : Language K R A S T V) where
         → ReadsOne places later w
 
   -- The rule has read the tokens up to the rest, with this value.
-  pub record Done (after : Ahead K) (look : ℕ) (r : R) (tokens rest : List S) (value : V) : Type 0 where
+  pub record Done (after : Ahead K) (look : ℕ) (r : R) (tokens rest : List S)
+      (value : V) : Type 0 where
     pub front : List S
     pub split : tokens ≡ front ++ rest
     pub leads : Leads l after look (rule r ∷ []) [] front rest

@@ -12,7 +12,8 @@ pub fn failures_come_first<K, R, A, T, V>()
     ensures { (g : Grammar K R A T) (t : Tables K R) (deeper : A → List Bool) (token_value : T → V)
         (node_value : A → List T → List V → V) → Covers g t → (limit : ℕ) (r : R) (tokens : List T)
         (next : T) (behind : List T)
-        → (o : Fails (room_language g t deeper token_value node_value) (None ∷ []) (whole_rule limit r) tokens (next ∷ behind))
+        → (o : Fails (room_language g t deeper token_value node_value) (None ∷ [])
+        (whole_rule limit r) tokens (next ∷ behind))
         → GoesOnWithin g deeper limit r o.front × (GoesOn g r (o.front ++ (next ∷ [])) → ⊥) }
 {}
 
@@ -21,7 +22,8 @@ pub fn left_tokens_come_first<K, R, A, T, V>()
     ensures { (g : Grammar K R A T) (t : Tables K R) (deeper : A → List Bool) (token_value : T → V)
         (node_value : A → List T → List V → V) → Covers g t → (limit : ℕ) (r : R) (tokens : List T)
         (next : T) (behind : List T) (value : V)
-        → (o : Done (room_language g t deeper token_value node_value) (None ∷ []) 1 (whole_rule limit r) tokens (next ∷ behind) value)
+        → (o : Done (room_language g t deeper token_value node_value) (None ∷ []) 1
+        (whole_rule limit r) tokens (next ∷ behind) value)
         → GoesOnWithin g deeper limit r o.front × (GoesOn g r (o.front ++ (next ∷ [])) → ⊥) }
 {}
 
@@ -29,8 +31,10 @@ pub fn left_tokens_come_first<K, R, A, T, V>()
 /// and together with the next one they go on, but not within it.
 pub fn depths_come_first<K, R, A, T, V>()
     ensures { (g : Grammar K R A T) (t : Tables K R) (deeper : A → List Bool) (token_value : T → V)
-        (node_value : A → List T → List V → V) → Covers g t → (limit : ℕ) (r : R) (tokens rest : List T)
-        → (o : IsTooDeep (room_language g t deeper token_value node_value) (None ∷ []) (whole_rule limit r) tokens rest)
+        (node_value : A → List T → List V → V) → Covers g t → (limit : ℕ) (r : R)
+        (tokens rest : List T)
+        → (o : IsTooDeep (room_language g t deeper token_value node_value) (None ∷ [])
+        (whole_rule limit r) tokens rest)
         → GoesOnWithin g deeper limit r o.front
         × GoesOn g r (o.front ++ (o.token ∷ []))
         × (GoesOnWithin g deeper limit r (o.front ++ (o.token ∷ [])) → ⊥) }

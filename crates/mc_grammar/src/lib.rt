@@ -1,8 +1,8 @@
 //! Grammars as data and their readings: what makes a reading the only one, and what a descent that
 //! looks ahead may say of the tokens that it took. In reading order, of `specs/`: `Grammar` and
 //! `Reading`; `Ahead` (FIRST and FOLLOW) and `Apart`, then [`readings_are_unique`]; `Language`,
-//! `Descent`, `Places` and `Chains`; `Completions`, then [`symbols_are_completed`]; `Nest` and `Room`
-//! (a limit of depth), `Goes`, then [`failures_come_first`], [`left_tokens_come_first`] and
+//! `Descent`, `Places` and `Chains`; `Completions`, then [`symbols_are_completed`]; `Nest` and
+//! `Room` (a limit of depth), `Goes`, then [`failures_come_first`], [`left_tokens_come_first`] and
 //! [`depths_come_first`].
 #![tactic(auto)]
 

@@ -1,13 +1,16 @@
--- What completes a statement from any place inside a rule: a lexeme of each class, and lexemes of each
--- rule.
+-- What completes a statement from any place inside a rule: a lexeme of each class, and lexemes of
+-- each rule.
 use Rattle.std.specs.Prelude.{List, [], ◌∷◌, map, pos, codes}
 use Rattle.mc_token.specs.declared.lexeme.Lexeme.{Lexeme}
 use Rattle.mc_token.specs.declared.lexeme.Lexeme.TheVariants.{Word, Int, Str, National, Hex, Sym}
 use Rattle.mc_token.specs.declared.lexeme.Symbol.TheVariants.{LeftParen, RightParen, Eq}
 use Rattle.mc_token.specs.declared.lexeme.Token.{Token}
 use Rattle.mc_grammar.specs.Completions.{Completions}
-use Rattle.mc_sql.specs.Classes.{Class, word, mark, name, called, called_otherwise, intro, int, str, national, hex}
-use Rattle.mc_sql.specs.Rules.{Rule, statement, source, item, order, or, xor, and, not, pred, cmp, sum, prod, neg, coll, name_or_binary, prim, string, call, side}
+use Rattle.mc_sql.specs.Classes.{Class, word, mark, name, called, called_otherwise}
+use Rattle.mc_sql.specs.Classes.{intro, int, str, national, hex}
+use Rattle.mc_sql.specs.Rules.{Rule, statement, source, item, order, or, xor, and}
+use Rattle.mc_sql.specs.Rules.{not, pred, cmp, sum, prod, neg, coll, name_or_binary}
+use Rattle.mc_sql.specs.Rules.{prim, string, call, side}
 
 -- A lexeme of each class.
 abbrev pub lexeme_of : Class → Lexeme

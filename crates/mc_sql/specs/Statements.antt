@@ -4,7 +4,10 @@ use Prim.Native.String.{String}
 use Rattle.mc_grammar.specs.Grammar.{Grammar, Symbol, one, rule}
 use Rattle.mc_token.specs.declared.lexeme.Token.{Token}
 use Rattle.mc_token.specs.declared.lexeme.Symbol.{Symbol as Mark}
-use Rattle.mc_token.specs.declared.lexeme.Symbol.TheVariants.{LeftParen, RightParen, Comma, Dot, Star, Plus, Minus, Percent, Eq, Ne, NeBang, Lt, Le, Gt, Ge, NullEq}
+use Rattle.mc_token.specs.declared.lexeme.Symbol.TheVariants.{LeftParen, RightParen, Comma, Dot}
+use Rattle.mc_token.specs.declared.lexeme.Symbol.TheVariants.{Star, Plus, Minus, Percent}
+use Rattle.mc_token.specs.declared.lexeme.Symbol.TheVariants.{Eq, Ne, NeBang, Lt}
+use Rattle.mc_token.specs.declared.lexeme.Symbol.TheVariants.{Le, Gt, Ge, NullEq}
 use Rattle.mc_sql.specs.Classes.{Class, word, mark, name, called, called_otherwise, intro, int, str, national, hex, is_lexeme_of}
 use Rattle.mc_sql.specs.Rules.{Rule, Alternative, alternatives, explain_option, distinct_option, more_items, source_option, source, where_option, group_option, more_ors, order_option, more_orders, limit_option, offset_option, item, alias_option, order, direction_option, or, more_xors, xor, more_ands, and, more_nots, not, pred, not_option, escape_option, cmp, sum, more_prods, prod, more_negs, neg, coll, more_collates, name_or_binary, prim, string, more_strs, call, set_option, side, or_option, length_option, cut_option, star_statement, items_statement, no_explain, explained, no_distinct, distinct_rows, no_more_items, one_more_item, no_source, given_source, from_table, no_where, where_holds, no_group, group_by, no_more_ors, one_more_or, no_order, order_by, no_more_orders, one_more_order, no_limit, limit_rows, no_offset, offset_before, offset_behind, one_item, no_alias, as_alias, bare_alias, one_order, no_direction, ascending, descending, xors, no_more_xors, one_more_xor, ands, no_more_ands, one_more_and, nots, no_more_nots, one_more_not, negated, just_pred, just_sum, compared, tested_null, matched, listed, ranged, no_not, with_not, no_escape, with_escape, equal, null_equal, unequal, unequal_bang, less, less_equal, greater, greater_equal, prods, no_more_prods, plus_prod, minus_prod, negs, no_more_negs, times_neg, div_neg, percent_neg, mod_neg, minus, just_coll, collated, no_more_collates, one_more_collate, by_name, by_binary, number, true_word, false_word, null_word, just_string, column, table_column, just_call, in_parens, plain_string, national_string, hex_string, intro_string, intro_hex, no_more_strs, one_more_str, convert_call, cast_char_call, cast_binary_call, count_all_call, count_distinct_call, trim_side_call, trim_call, substring_call, weight_string_call, empty_call, single_call, many_call, no_set, with_set, both_sides, leading_side, trailing_side, no_or, given_or, no_length, with_length, no_cut, char_cut, binary_cut}
 
@@ -100,8 +103,8 @@ symbols compared = rule sum ∷ rule cmp ∷ rule sum ∷ []
 symbols tested_null = rule sum ∷ keyword "is" ∷ rule not_option ∷ keyword "null" ∷ []
 symbols matched = rule sum ∷ rule not_option ∷ keyword "like" ∷ rule sum ∷ rule escape_option ∷ []
 symbols listed =
-    rule sum ∷ rule not_option ∷ keyword "in" ∷ sign LeftParen ∷ rule or ∷ rule more_ors ∷ sign RightParen ∷
-    []
+    rule sum ∷ rule not_option ∷ keyword "in" ∷ sign LeftParen ∷ rule or ∷ rule more_ors ∷
+    sign RightParen ∷ []
 symbols ranged =
     rule sum ∷ rule not_option ∷ keyword "between" ∷ rule sum ∷ keyword "and" ∷ rule sum ∷ []
 -- [NOT]
@@ -173,20 +176,22 @@ symbols one_more_str = one str ∷ rule more_strs ∷ []
 -- Both of the last two read `weight_string ( or )`: the former gives the tree, so the latter, where
 -- it has one argument, leaves that word out.
 symbols convert_call =
-    keyword "convert" ∷ sign LeftParen ∷ rule or ∷ keyword "using" ∷ rule name_or_binary ∷ sign RightParen ∷
-    []
+    keyword "convert" ∷ sign LeftParen ∷ rule or ∷ keyword "using" ∷ rule name_or_binary ∷
+    sign RightParen ∷ []
 symbols cast_char_call =
     keyword "cast" ∷ sign LeftParen ∷ rule or ∷ keyword "as" ∷ keyword "char" ∷ rule set_option ∷
     sign RightParen ∷ []
 symbols cast_binary_call =
-    keyword "cast" ∷ sign LeftParen ∷ rule or ∷ keyword "as" ∷ keyword "binary" ∷ sign RightParen ∷ []
+    keyword "cast" ∷ sign LeftParen ∷ rule or ∷ keyword "as" ∷ keyword "binary" ∷
+    sign RightParen ∷ []
 symbols count_all_call = keyword "count" ∷ sign LeftParen ∷ sign Star ∷ sign RightParen ∷ []
 symbols count_distinct_call =
     keyword "count" ∷ sign LeftParen ∷ keyword "distinct" ∷ rule or ∷ sign RightParen ∷ []
 symbols trim_side_call =
     keyword "trim" ∷ sign LeftParen ∷ rule side ∷ rule or_option ∷ keyword "from" ∷ rule or ∷
     sign RightParen ∷ []
-symbols trim_call = keyword "trim" ∷ sign LeftParen ∷ rule or ∷ keyword "from" ∷ rule or ∷ sign RightParen ∷ []
+symbols trim_call =
+    keyword "trim" ∷ sign LeftParen ∷ rule or ∷ keyword "from" ∷ rule or ∷ sign RightParen ∷ []
 symbols substring_call =
     keyword "substring" ∷ sign LeftParen ∷ rule or ∷ keyword "from" ∷ rule or ∷ rule length_option ∷
     sign RightParen ∷ []
@@ -195,7 +200,8 @@ symbols weight_string_call =
 symbols empty_call = one called ∷ sign LeftParen ∷ sign RightParen ∷ []
 symbols single_call = one called_otherwise ∷ sign LeftParen ∷ rule or ∷ sign RightParen ∷ []
 symbols many_call =
-    one called ∷ sign LeftParen ∷ rule or ∷ sign Comma ∷ rule or ∷ rule more_ors ∷ sign RightParen ∷ []
+    one called ∷ sign LeftParen ∷ rule or ∷ sign Comma ∷ rule or ∷ rule more_ors ∷
+    sign RightParen ∷ []
 -- [CHARACTER SET (NAME | BINARY)]
 symbols no_set = []
 symbols with_set = keyword "character" ∷ keyword "set" ∷ rule name_or_binary ∷ []
@@ -212,7 +218,8 @@ symbols with_length = keyword "for" ∷ rule or ∷ []
 -- [AS (CHAR | BINARY) ( Int )]
 symbols no_cut = []
 symbols char_cut = keyword "as" ∷ keyword "char" ∷ sign LeftParen ∷ one int ∷ sign RightParen ∷ []
-symbols binary_cut = keyword "as" ∷ keyword "binary" ∷ sign LeftParen ∷ one int ∷ sign RightParen ∷ []
+symbols binary_cut =
+    keyword "as" ∷ keyword "binary" ∷ sign LeftParen ∷ one int ∷ sign RightParen ∷ []
 
 -- The grammar of the statements.
 abbrev pub statements : Grammar Class Rule Alternative Token
