@@ -1,0 +1,9 @@
+pub mod CellLemmas
+pub mod PlaceLemmas
+pub mod EntryLemmas
+pub mod CutLemmas
+pub mod ListedLemmas
+pub mod ReadLemmas
+pub mod RangeLemmas
+pub mod PutLemmas
+pub mod PieceLemmas

@@ -1,0 +1,15 @@
+-- What stood in the list stands there still.
+use Rattle.std.proofs.Common.{refl}
+use Rattle.mc_allkeys.specs.Singles.{single_in, is_head_in}
+use Rattle.mc_allkeys.proofs.CellLemmas.{found-append}
+use Rattle.mc_allkeys.proofs.singles.Singles.append.Goals as goal
+
+pub returns-clause-entries : goal.returns-clause-entries
+unfolding single_in
+returns-clause-entries c = λ code.
+    rw (← c.self.view_is, c.in_ok-extend_from_slice.ensures.items)
+    (found-append _ _ _ (c.self.inside.within code))
+
+pub returns-clause-heads : goal.returns-clause-heads
+unfolding is_head_in
+returns-clause-heads c = λ code. rw (← c.self.view_is) refl

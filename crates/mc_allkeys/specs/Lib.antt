@@ -1,0 +1,17 @@
+pub mod Texts
+pub mod Table
+pub mod Longest
+pub mod Put
+pub mod Pieces
+pub mod Levels
+pub mod Cuts
+pub mod Listed
+pub mod RangeLine
+pub mod Said
+pub mod Kinds
+pub mod Faults
+pub mod KeysFile
+pub mod Cells
+pub mod Singles
+pub mod Places
+pub mod Keys

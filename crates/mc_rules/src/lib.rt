@@ -1,0 +1,15 @@
+//! The elements of characters that an element table doesn't list.
+//!
+//! UTS #10, 10.1.3, and the Unicode Standard, 3.12, on Hangul syllables; the lists of ideographs
+//! are the project's own. `specs/Outside.antt` says which elements a character has.
+#![tactic(auto)]
+
+mod bases;
+mod family;
+mod jamo;
+#[cfg(test)]
+mod tests;
+mod unlisted;
+
+pub use family::UcaFamily;
+pub use unlisted::outside;
