@@ -3,6 +3,7 @@ use Rattle.std.specs.Prelude.{Bool, true, false, not, ◌&&◌, ◌||◌, ℕ, L
 use Rattle.mc_grammar.specs.Ahead.{any_of}
 use Rattle.mc_token.specs.declared.lexeme.Lexeme.{Lexeme}
 use Rattle.mc_token.specs.declared.lexeme.Lexeme.TheVariants.{Word, Name, Int, Str, National, Hex, Sym}
+use Rattle.mc_token.specs.declared.lexeme.Symbol.{Symbol}
 use Rattle.mc_token.specs.Marks.{mark_text}
 
 -- The two texts are one.
