@@ -3,3 +3,4 @@ pub mod PlaceLemmas
 pub mod LineLemmas
 pub mod FieldLemmas
 pub mod FirstFaultLemmas
+pub mod FileOutcomeLemmas

@@ -1,5 +1,6 @@
 -- A place in one file of a list.
-use Rattle.std.specs.Prelude.{◌<◌, ◌≤◌, ℕ, List, [], length, drop, Option, None, Some, unwrap_or, slice_get, ⊤}
+use Rattle.std.specs.Prelude.{◌<◌, ◌≤◌, ℕ, List, [], length, drop, Option, None, Some, unwrap_or}
+use Rattle.std.specs.Prelude.{slice_get, ⊤}
 use Rattle.mc_base.specs.declared.mem_files.Cursor.{Cursor}
 
 -- the bytes of the file at an index
@@ -14,4 +15,5 @@ rest_at files (Some cursor) = Some (drop cursor.offset (bytes_at files cursor.fi
 -- A place lies within its file, which is one of the list.
 abbrev pub IsWithin : List (List ℕ × List ℕ) → Option Cursor → Type 0
 IsWithin files None = ⊤
-IsWithin files (Some cursor) = (cursor.file < length files) × (cursor.offset ≤ length (bytes_at files cursor.file))
+IsWithin files (Some cursor) =
+    (cursor.file < length files) × (cursor.offset ≤ length (bytes_at files cursor.file))

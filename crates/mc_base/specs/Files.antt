@@ -22,7 +22,8 @@ OpenCause NoMemory before after = ⊤
 
 -- `read` answered this: the next bytes of the rest stand in the buffer, and the others are left.
 abbrev pub ReadTells : ReadAnswer → List ℕ → List ℕ → List ℕ → Type 0
-ReadTells (Got n) buffer rest left = (rest ≡ take n buffer ++ left) × (n ≡ 0 → 0 < length buffer → rest ≡ [])
+ReadTells (Got n) buffer rest left =
+    (rest ≡ take n buffer ++ left) × (n ≡ 0 → 0 < length buffer → rest ≡ [])
 ReadTells ReadFailed buffer rest left = left ≡ rest
 
 -- `read` gives no more than the buffer holds, and fails only where the count of faults rose.

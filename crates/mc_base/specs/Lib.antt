@@ -2,6 +2,8 @@ pub mod Faults
 pub mod Files
 pub mod Sink
 pub mod Whole
+pub mod Results
+pub mod FileOutcome
 pub mod FaultPlan
 pub mod MemSink
 pub mod MemFiles

@@ -14,7 +14,8 @@ says_something line = not (length line.1 == 0)
 
 -- the bodies that say something, each with its line's number, the first line having this one
 abbrev pub bodies_from : ℕ → List (List ℕ) → List (ℕ × List ℕ)
-bodies_from number raw = filter says_something (map (λ line. (line.0, body_of line.1)) (enumerate_from number raw))
+bodies_from number raw =
+    filter says_something (map (λ line. (line.0, body_of line.1)) (enumerate_from number raw))
 
 -- the lines of a text that say something: number and body
 abbrev pub lines_of : List ℕ → List (ℕ × List ℕ)

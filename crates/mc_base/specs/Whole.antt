@@ -1,5 +1,6 @@
 -- A file read whole under a limit of its length.
-use Rattle.std.specs.Prelude.{◌≡◌, ◌<◌, ◌≤◌, ℕ, Bool, true, false, List, [], ◌++◌, length, Option, None, Some, ⊤, Result, Ok, Err, IsSomeAnd}
+use Rattle.std.specs.Prelude.{◌≡◌, ◌<◌, ◌≤◌, ℕ, Bool, true, false, List, [], ◌++◌, length, Option}
+use Rattle.std.specs.Prelude.{None, Some, ⊤, Result, Ok, Err, IsSomeAnd}
 use Rattle.mc_base.specs.Faults.{Rose}
 use Rattle.mc_base.specs.declared.whole.ReadWhole.{ReadWhole}
 use Rattle.mc_base.specs.declared.whole.ReadWhole.TheVariants.{Absent, Fault, TooLong, NoMemory}

@@ -1,5 +1,5 @@
-ghost use Rattle.std.specs.Prelude.{◌≡◌, ◌<◌, ◌+◌, ◌*◌, ◌^◌, ◌≤◌, Some, length, fold, option_map, IfSome, take};
-ghost use Rattle.mc_base.specs.Hex.{hex_digit, hex_value, hex_number_of};
+ghost use Rattle.std.specs.Prelude.{◌≡◌, ◌<◌, ◌+◌, ◌*◌, Some, IfSome};
+ghost use Rattle.mc_base.specs.Hex.{hex_digit, hex_number_of};
 
 /// The number of one to six hexadecimal digits, upper or lower case; None where the bytes are
 /// something else.

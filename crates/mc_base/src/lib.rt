@@ -1,11 +1,22 @@
-//! What every crate of the engine stands on: owned lists that contracts see as lists, the one
-//! answer for want of memory, places in a script, refusals, and a counter of steps.
+//! What every crate of the engine stands on: owned lists that contracts see as lists, files and
+//! sinks with their faults, texts cut into lines and fields, and the refusals that all readers give.
+//!
+//! Read the modules in this order. Memory: `list`, `boxed`, `no_memory`. The outside, where a device
+//! or memory may fail: `outside` (the traits), `real_files` and `real_sink` (the operating system;
+//! POSIX.1, open, read and write), `fault_plan`, `mem_files` and `mem_sink` (in memory, failing as
+//! planned). Files as texts: `whole` (under any limit) and `file` (the engine's limit, with the
+//! refusals of a file). Lines of settings: `blanks`, `places`, `lines`, `fields`, `hex`. Answers:
+//! `span` (a place in a script), `refusal`, `steps` (a counter).
+//!
+//! `specs/FirstFault` says which fault of many lines is told, and `specs/Results` what comes of a
+//! value or of the error in its place.
 #![tactic(auto)]
 
 mod blanks;
 mod boxed;
 mod fault_plan;
 mod fields;
+mod file;
 mod hex;
 mod lines;
 mod list;
@@ -25,6 +36,7 @@ mod whole;
 
 pub use boxed::Boxed;
 pub use fields::next_field;
+pub use file::{FileFault, read_file, refuse_file};
 pub use hex::hex_number;
 pub use lines::{Line, LineReader};
 pub use list::{List, Text, Weights};

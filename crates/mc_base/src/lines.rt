@@ -77,10 +77,12 @@ struct RawLines<'a> {
 impl<'a> RawLines<'a> {
     /// The next line without its end.
     fn next_raw(&mut self) -> Option<&'a [u8]>
-        ensures line { MatchOption result ((lines self.old.rest.now ≡ []) × (lines self.new.rest.now ≡ []))
+        ensures line { MatchOption result
+            ((lines self.old.rest.now ≡ []) × (lines self.new.rest.now ≡ []))
             (λ line. lines self.old.rest.now ≡ line.now ∷ lines self.new.rest.now) }
         ensures taken { MatchOption result (self.new.taken ≡ self.old.taken)
-            (λ _. (self.new.taken ≡ self.old.taken + 1) × (length self.new.rest.now < length self.old.rest.now)) }
+            (λ _. (self.new.taken ≡ self.old.taken + 1)
+            × (length self.new.rest.now < length self.old.rest.now)) }
     {
         if self.rest.is_empty() {
             return None;

@@ -1,4 +1,16 @@
-ghost use Rattle.std.specs.Prelude.{◌≡◌, [], ◌∷◌, ◌++◌, length, take, ◌↔◌, IsTrue, IfOk, OnOk, OnErr};
+ghost use Rattle.std.specs.Prelude.{
+  ◌≡◌,
+  [],
+  ◌∷◌,
+  ◌++◌,
+  length,
+  take,
+  ◌↔◌,
+  IsTrue,
+  IfOk,
+  OnOk,
+  OnErr,
+};
 
 use crate::NoMemory;
 use std::alloc::Global;
@@ -66,6 +78,14 @@ impl<T: Drop> List<T> {
         ensures err { OnErr result (self.new ≡ self.old) }
     {
         self.members.push(member)?;
+        Ok(())
+    }
+
+    /// Makes room for so many more members, so that appending them moves none. The list stays.
+    pub fn reserve(&mut self, more: usize) -> Result<(), NoMemory>
+        ensures { self.new ≡ self.old }
+    {
+        self.members.reserve(more)?;
         Ok(())
     }
 

@@ -1,4 +1,25 @@
-ghost use Rattle.std.specs.Prelude.{◌≡◌, ◌≤◌, ◌≢◌, ◌↔◌, IsTrue, AllPairs, Some, None, is_some, min, take, length, position, IfSome, ◌<◌, ◌+◌, ◌++◌, ◌^◌, [], drop};
+ghost use Rattle.std.specs.Prelude.{
+  ◌≡◌,
+  ◌≤◌,
+  ◌≢◌,
+  ◌↔◌,
+  IsTrue,
+  AllPairs,
+  Some,
+  None,
+  is_some,
+  min,
+  take,
+  length,
+  position,
+  IfSome,
+  ◌<◌,
+  ◌+◌,
+  ◌++◌,
+  ◌^◌,
+  [],
+  drop,
+};
 ghost use Rattle.std.specs.Str.{bytes_eq};
 ghost use Rattle.mc_base.specs.Cursor.{bytes_at};
 ghost use Rattle.mc_base.specs.FaultPlan.{fails_now, counted};
@@ -65,7 +86,8 @@ impl Files for MemFiles {
         ensures kept { self.new.files ≡ self.old.files }
         ensures later { self.old.plan.faults ≤ self.new.plan.faults }
         ensures opened { IsTrue (is_some self.new.rest) ↔ (result ≡ OpenAnswer.Opened) }
-        ensures told { OpenTells result (contents_of self.old.files name.now) (rest_told self.new.rest) }
+        ensures told { OpenTells result (contents_of self.old.files name.now)
+            (rest_told self.new.rest) }
         ensures cause { OpenCause result self.old.plan.faults self.new.plan.faults }
         ensures planned { self.new.plan ≡ counted self.old.plan }
         ensures failing { OpensAsPlanned result (fails_now self.old.plan) }
@@ -88,7 +110,8 @@ impl Files for MemFiles {
         ensures kept { self.new.files ≡ self.old.files }
         ensures later { self.old.plan.faults ≤ self.new.plan.faults }
         ensures opened { IsTrue (is_some self.new.rest) }
-        ensures told { ReadTells result buf.new (rest_told self.old.rest) (rest_told self.new.rest) }
+        ensures told { ReadTells result buf.new (rest_told self.old.rest)
+            (rest_told self.new.rest) }
         ensures cause { ReadCause result (length buf.old) self.old.plan.faults self.new.plan.faults }
         ensures planned { self.new.plan ≡ counted self.old.plan }
         ensures failing { ReadsAsPlanned result (fails_now self.old.plan) }
@@ -127,7 +150,8 @@ fn read_at(files: &[(Text, Text)], cursor: Cursor, buf: &mut [u8]) -> usize
     ensures within { cursor.offset + result ≤ length (bytes_at files.now cursor.file) }
     ensures read { drop cursor.offset (bytes_at files.now cursor.file)
         ≡ take result buf.new ++ drop (cursor.offset + result) (bytes_at files.now cursor.file) }
-    ensures end { result ≡ 0 → 0 < length buf.old → drop cursor.offset (bytes_at files.now cursor.file) ≡ [] }
+    ensures end { result ≡ 0 → 0 < length buf.old
+        → drop cursor.offset (bytes_at files.now cursor.file) ≡ [] }
 {
     let rest = &files[cursor.file].1.as_slice()[cursor.offset..];
     copy_front(rest, buf)

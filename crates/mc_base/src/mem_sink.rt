@@ -53,7 +53,8 @@ impl Sink for MemSink {
         ensures told { PutTells result bytes.now (Some self.old.written) (Some self.new.written) }
         ensures cause { PutCause result self.old.plan.faults self.new.plan.faults }
         ensures planned { self.new.plan ≡ counted self.old.plan }
-        ensures failing { PutsAsPlanned result (fails_now self.old.plan) self.old.written self.new.written }
+        ensures failing { PutsAsPlanned result
+            (fails_now self.old.plan) self.old.written self.new.written }
     {
         if self.plan.count_call() {
             return PutAnswer::Failed;

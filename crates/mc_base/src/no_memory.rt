@@ -1,5 +1,3 @@
-ghost use Rattle.std.specs.Prelude.{⊤};
-
 use std::alloc::{AllocError, AllocFailed};
 
 /// Memory ran out. A call that answers it has left what it was lent as it was.

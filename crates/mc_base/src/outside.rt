@@ -57,7 +57,8 @@ pub trait Files {
         ensures kept { contents self.new ≡ contents self.old }
         ensures later { faults self.old ≤ faults self.new }
         ensures opened { IsTrue (is_open self.new) ↔ (result ≡ OpenAnswer.Opened) }
-        ensures told { IfSome (contents self.old) (λ files. OpenTells result (files name.now) (place self.new)) }
+        ensures told { IfSome (contents self.old)
+            (λ files. OpenTells result (files name.now) (place self.new)) }
         ensures cause { OpenCause result (faults self.old) (faults self.new) };
 
     /// Reads on in the open file, which stays open.
@@ -66,7 +67,8 @@ pub trait Files {
         ensures kept { contents self.new ≡ contents self.old }
         ensures later { faults self.old ≤ faults self.new }
         ensures opened { IsTrue (is_open self.new) }
-        ensures told { IfSome (contents self.old) (λ _. ReadTells result buf.new (place self.old) (place self.new)) }
+        ensures told { IfSome (contents self.old)
+            (λ _. ReadTells result buf.new (place self.old) (place self.new)) }
         ensures cause { ReadCause result (length buf.old) (faults self.old) (faults self.new) };
 }
 

@@ -190,3 +190,15 @@ Spells_join set (code ∷ codes) more text rest h k =
     let s = Spells_split set code codes text h in
     let i = Spells_join set codes more s.rest rest s.rest_spelled k in
     Spells_cons set code (codes ++ more) s.front (s.rest ++ rest) s.spelled i ∙ ap (λ x. Some x) (sym (append_assoc s.front s.rest rest) ∙ ap (λ x. x ++ rest) (sym s.joins))
+
+-- The characters of a front and of what is behind it.
+pub chars_front : (set : Charset) (codes front rest : List ℕ) → Spells set codes front → chars set (front ++ rest) ≡ codes ++ chars set rest
+chars_front set [] front rest h = ap (λ text. chars set (text ++ rest)) (Spells_nil set front h)
+chars_front set (code ∷ codes) front rest h =
+    let s = Spells_split set code codes front h in
+    let whole : front ++ rest ≡ s.front ++ (s.rest ++ rest) = ap (λ text. text ++ rest) s.joins ∙ append_assoc s.front s.rest rest in
+    let f = found_spelled set code s.front (s.rest ++ rest) s.spelled in
+    let i = found_is_first set (s.front ++ (s.rest ++ rest)) code (length s.front) f in
+    ap (chars set) whole ∙ chars_found set (s.front ++ (s.rest ++ rest)) code (length s.front) f i.positive i.within
+    ∙ ap (λ text. code ∷ chars set text) (drop-append_seam s.front (s.rest ++ rest))
+    ∙ ap (λ cs. code ∷ cs) (chars_front set codes s.rest rest s.rest_spelled)

@@ -10,11 +10,11 @@ use Rattle.std.proofs.lemmas.Option.{same_Some}
 use Rattle.std.proofs.Math.Nat.{mod-lt, div-lt_iff_lt-mul}
 use lib.Utf8.{scalar, scalars, encode, encodes}
 use Rattle.mc_charset.specs.declared.charset.Charset.{Charset}
-use Rattle.mc_charset.specs.declared.charset.Charset.TheVariants.{Latin1, Ascii, Utf8mb3, Utf8mb4, Binary}
+use Rattle.mc_charset.specs.declared.charset.Charset.TheVariants.{Latin1, Ascii, Utf8mb3, Utf8mb4, Ucs2, Utf16, Binary}
 use Rattle.mc_charset.specs.declared.latin1.TheConstants.{CODES_80_TO_9F}
 use Rattle.mc_charset.specs.Rows.{Range, Row, count, sequence, has_code, spelling_in, first_in}
-use Rattle.mc_charset.specs.Tables.{rows, utf8_short_rows, utf8_long_rows}
-use Rattle.mc_charset.specs.Chars.{spell, spell_all, Spells, IsWellFormed}
+use Rattle.mc_charset.specs.Tables.{rows, utf8_short_rows, utf8_long_rows, two_byte_rows, surrogate_pair_rows}
+use Rattle.mc_charset.specs.Chars.{spell, Spells, IsWellFormed}
 use Rattle.mc_charset.proofs.Rows.{are_filled, count_positive, and_parts, guard_cases, has_code_parts}
 use Rattle.mc_charset.proofs.ByteRows.{latin1_middle}
 use Rattle.mc_charset.proofs.Chars.{empty_spelled, found_well_formed, Spells_nil, Spells_split, Spells_cons}
@@ -191,9 +191,17 @@ spelling_in-append : (some more : List Row) (code : ℕ) → spelling_in (some +
 spelling_in-append [] more code = refl
 spelling_in-append (row ∷ some) more code = guarded (has_code row code) (sequence row.bytes (code - row.first)) (spelling_in (some ++ more) code) (spelling_in some code) (spelling_in more code) (spelling_in-append some more code)
 
+-- Rows that begin with others spell as those.
+spelling_longer : (some more : List Row) (code : ℕ) (front : List ℕ) → spelling_in some code ≡ Some front → spelling_in (some ++ more) code ≡ Some front
+spelling_longer some more code front h = spelling_in-append some more code ∙ ap (λ o. option_or o (spelling_in more code)) h
+
 spell_longer : (code : ℕ) (front : List ℕ) → spell Utf8mb3 code ≡ Some front → spell Utf8mb4 code ≡ Some front
 unfolding spell
-spell_longer code front h = spelling_in-append utf8_short_rows utf8_long_rows code ∙ ap (λ o. option_or o (spelling_in utf8_long_rows code)) h
+spell_longer code front h = spelling_longer utf8_short_rows utf8_long_rows code front h
+
+spell_wider : (code : ℕ) (front : List ℕ) → spell Ucs2 code ≡ Some front → spell Utf16 code ≡ Some front
+unfolding spell
+spell_wider code front h = spelling_longer two_byte_rows surrogate_pair_rows code front h
 
 -- The first byte of each row is at or above the bound.
 abbrev begins_above : ℕ → List Range → Bool
@@ -228,11 +236,18 @@ spell_shorter code front h k =
       | inr e ↦ absurd (spelling_above 0xF0 utf8_long_rows code front refl e k)
     ]
 
-longer : (codes text : List ℕ) → Spells Utf8mb3 codes text → Spells Utf8mb4 codes text
-longer [] text h = ap (spell_all Utf8mb4) refl ∙ empty_spelled Utf8mb4 ∙ ap (λ x. Some x) (sym (Spells_nil Utf8mb3 text h))
-longer (c ∷ codes) text h =
-    let s = Spells_split Utf8mb3 c codes text h in
-    Spells_cons Utf8mb4 c codes s.front s.rest (spell_longer c s.front s.spelled) (longer codes s.rest s.rest_spelled) ∙ ap (λ x. Some x) (sym s.joins)
+-- Where a set spells each character as another set does, it spells each text so.
+all_longer : (some more : Charset) → ((code : ℕ) (front : List ℕ) → spell some code ≡ Some front → spell more code ≡ Some front) → (codes text : List ℕ) → Spells some codes text → Spells more codes text
+all_longer some more each [] text h = empty_spelled more ∙ ap (λ x. Some x) (sym (Spells_nil some text h))
+all_longer some more each (c ∷ codes) text h =
+    let s = Spells_split some c codes text h in
+    Spells_cons more c codes s.front s.rest (each c s.front s.spelled) (all_longer some more each codes s.rest s.rest_spelled) ∙ ap (λ x. Some x) (sym s.joins)
+
+pub longer : (codes text : List ℕ) → Spells Utf8mb3 codes text → Spells Utf8mb4 codes text
+longer = all_longer Utf8mb3 Utf8mb4 spell_longer
+
+pub wider : (codes text : List ℕ) → Spells Ucs2 codes text → Spells Utf16 codes text
+wider = all_longer Ucs2 Utf16 spell_wider
 
 AreBelow_front : (bound : ℕ) (front rest : List ℕ) → AreBelow bound (front ++ rest) → AreBelow bound front
 AreBelow_front bound [] rest h = tt

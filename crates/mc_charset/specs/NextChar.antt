@@ -1,5 +1,6 @@
 -- The first character of a text.
-use Rattle.std.specs.Prelude.{◌≡◌, ◌≢◌, ◌↔◌, ℕ, ◌<◌, ◌≤◌, List, [], ◌∷◌, ◌++◌, Some, None, length, take, drop}
+use Rattle.std.specs.Prelude.{◌≡◌, ◌≢◌, ◌↔◌, ℕ, ◌<◌, ◌≤◌, List, [], ◌∷◌, ◌++◌, Some, None, length}
+use Rattle.std.specs.Prelude.{take, drop}
 use Rattle.mc_charset.specs.declared.charset.Charset.{Charset}
 use Rattle.mc_charset.specs.declared.char_at.CharAt.{CharAt}
 use Rattle.mc_charset.specs.declared.char_at.CharAt.TheVariants.{Char, End, Bad}
@@ -15,7 +16,8 @@ pub record IsFirst (set : Charset) (text : List ℕ) (code : ℕ) (len : ℕ) : 
 
 -- No spelling of the set begins the text.
 abbrev pub BeginsBadly : Charset → List ℕ → Type 0
-BeginsBadly set text = (code : ℕ) (front rest : List ℕ) → spell set code ≡ Some front → text ≢ front ++ rest
+BeginsBadly set text =
+    (code : ℕ) (front rest : List ℕ) → spell set code ≡ Some front → text ≢ front ++ rest
 
 -- The answer is the character whose spelling begins the text, or says why there is none.
 abbrev pub IsNextChar : Charset → List ℕ → CharAt → Type 0
@@ -25,7 +27,9 @@ IsNextChar set text Bad = (text ≢ []) × BeginsBadly set text
 
 -- The answer against the characters of the whole text.
 abbrev pub HeadsChars : Charset → List ℕ → CharAt → Type 0
-HeadsChars set text (Char code len) = (chars set text ≡ code ∷ chars set (drop len text)) × (IsWellFormed set text ↔ IsWellFormed set (drop len text))
+HeadsChars set text (Char code len) =
+    (chars set text ≡ code ∷ chars set (drop len text))
+    × (IsWellFormed set text ↔ IsWellFormed set (drop len text))
 HeadsChars set text End = (chars set text ≡ []) × IsWellFormed set text
 HeadsChars set text Bad = (chars set text ≡ []) × (IsWellFormed set text → ⊥)
 

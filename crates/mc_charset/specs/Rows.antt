@@ -1,5 +1,6 @@
 -- Rows of byte sequences, in the form of the Unicode Standard's Table 3-7.
-use Rattle.std.specs.Prelude.{ℕ, ◌+◌, ◌-◌, ◌*◌, ◌/◌, ◌%◌, ◌&&◌, Bool, List, [], ◌∷◌, Option, Some, None, length, nat_lt, nat_le, if◌then◌else◌}
+use Rattle.std.specs.Prelude.{ℕ, ◌+◌, ◌-◌, ◌*◌, ◌/◌, ◌%◌, ◌&&◌, Bool, List, [], ◌∷◌, Option, Some}
+use Rattle.std.specs.Prelude.{None, length, nat_lt, nat_le, if◌then◌else◌}
 use Rattle.std.specs.Option.{option_map, option_or}
 
 -- The bytes from one to another, both included.
@@ -7,7 +8,8 @@ pub record Range : Type 0 where
   pub least : ℕ
   pub greatest : ℕ
 
--- A row: the byte sequences of these ranges, in their order, spell the code points from `first` on, in theirs.
+-- A row: the byte sequences of these ranges, in their order, spell the code points from `first` on,
+-- in theirs.
 pub record Row : Type 0 where
   pub first : ℕ
   pub bytes : List Range
@@ -29,15 +31,22 @@ has_code row code = nat_le row.first code && nat_lt code (row.first + count row.
 -- The spelling of a code point by the first row that has it.
 abbrev pub spelling_in : List Row → ℕ → Option (List ℕ)
 spelling_in [] code = None
-spelling_in (row ∷ rows) code = if has_code row code then Some (sequence row.bytes (code - row.first)) else spelling_in rows code
+spelling_in (row ∷ rows) code =
+    if has_code row code then Some (sequence row.bytes (code - row.first))
+    else spelling_in rows code
 
 -- The place of the byte sequence of these ranges that begins the bytes, where one does.
 abbrev pub place : List Range → List ℕ → Option ℕ
 place [] bytes = Some 0
 place (r ∷ rs) [] = None
-place (r ∷ rs) (b ∷ bytes) = if nat_le r.least b && nat_le b r.greatest then option_map (λ n. (b - r.least) * count rs + n) (place rs bytes) else None
+place (r ∷ rs) (b ∷ bytes) =
+    if nat_le r.least b && nat_le b r.greatest
+    then option_map (λ n. (b - r.least) * count rs + n) (place rs bytes) else None
 
--- The code point whose spelling begins the bytes, and how many bytes spell it, by the first row that has such a spelling.
+-- The code point whose spelling begins the bytes, and how many bytes spell it, by the first row
+-- that has such a spelling.
 abbrev pub first_in : List Row → List ℕ → Option (ℕ × ℕ)
 first_in [] bytes = None
-first_in (row ∷ rows) bytes = option_or (option_map (λ n. (row.first + n, length row.bytes)) (place row.bytes bytes)) (first_in rows bytes)
+first_in (row ∷ rows) bytes =
+    option_or (option_map (λ n. (row.first + n, length row.bytes)) (place row.bytes bytes))
+    (first_in rows bytes)

@@ -1,7 +1,8 @@
 -- The spellings of each character set, as rows.
 use Rattle.std.specs.Prelude.{ℕ, List, [], ◌∷◌, ◌++◌}
 use Rattle.mc_charset.specs.declared.charset.Charset.{Charset}
-use Rattle.mc_charset.specs.declared.charset.Charset.TheVariants.{Latin1, Ascii, Utf8mb3, Utf8mb4, Ucs2, Utf16, Utf32, Binary}
+use Rattle.mc_charset.specs.declared.charset.Charset.TheVariants.{Latin1, Ascii, Utf8mb3, Utf8mb4}
+use Rattle.mc_charset.specs.declared.charset.Charset.TheVariants.{Ucs2, Utf16, Utf32, Binary}
 use Rattle.mc_charset.specs.Rows.{Range, Row}
 
 abbrev pub from_to : ℕ → ℕ → Range
@@ -24,12 +25,16 @@ utf8_short_rows =
     ∷ from_code 0xE000 (from_to 0xEE 0xEF ∷ from_to 0x80 0xBF ∷ from_to 0x80 0xBF ∷ [])
     ∷ []
 
+-- The bytes behind the first one in UTF-8.
+abbrev pub behind : Range
+behind = from_to 0x80 0xBF
+
 -- Unicode Standard, Table 3-7, its last three rows: the code points from 10000 on.
 abbrev pub utf8_long_rows : List Row
 utf8_long_rows =
-    from_code 0x10000 (only 0xF0 ∷ from_to 0x90 0xBF ∷ from_to 0x80 0xBF ∷ from_to 0x80 0xBF ∷ [])
-    ∷ from_code 0x40000 (from_to 0xF1 0xF3 ∷ from_to 0x80 0xBF ∷ from_to 0x80 0xBF ∷ from_to 0x80 0xBF ∷ [])
-    ∷ from_code 0x100000 (only 0xF4 ∷ from_to 0x80 0x8F ∷ from_to 0x80 0xBF ∷ from_to 0x80 0xBF ∷ [])
+    from_code 0x10000 (only 0xF0 ∷ from_to 0x90 0xBF ∷ behind ∷ behind ∷ [])
+    ∷ from_code 0x40000 (from_to 0xF1 0xF3 ∷ behind ∷ behind ∷ behind ∷ [])
+    ∷ from_code 0x100000 (only 0xF4 ∷ from_to 0x80 0x8F ∷ behind ∷ behind ∷ [])
     ∷ []
 
 -- Two bytes, the greater one first: the code points up to FFFF without the surrogates D800 to DFFF.
@@ -41,7 +46,10 @@ two_byte_rows =
 
 -- Unicode Standard, Table 3-5: a high surrogate, D800 to DBFF, and a low one, DC00 to DFFF.
 abbrev pub surrogate_pair_rows : List Row
-surrogate_pair_rows = from_code 0x10000 (from_to 0xD8 0xDB ∷ from_to 0x00 0xFF ∷ from_to 0xDC 0xDF ∷ from_to 0x00 0xFF ∷ []) ∷ []
+surrogate_pair_rows =
+    from_code 0x10000
+    (from_to 0xD8 0xDB ∷ from_to 0x00 0xFF ∷ from_to 0xDC 0xDF ∷ from_to 0x00 0xFF ∷ [])
+    ∷ []
 
 -- Four bytes, the greatest one first: the code points up to 10FFFF without the surrogates.
 abbrev pub four_byte_rows : List Row
@@ -55,7 +63,7 @@ four_byte_rows =
 abbrev pub byte : ℕ → ℕ → Row
 byte b code = from_code code (only b ∷ [])
 
--- MySQL's latin1 from 80 to 9F: Windows code page 1252, and the control characters at its five gaps.
+-- MySQL's latin1 from 80 to 9F: Windows code page 1252, and control characters at its five gaps.
 abbrev pub latin1_rows_80_to_9f : List Row
 latin1_rows_80_to_9f =
     byte 0x80 0x20AC ∷ byte 0x81 0x0081 ∷ byte 0x82 0x201A ∷ byte 0x83 0x0192
@@ -70,7 +78,9 @@ latin1_rows_80_to_9f =
 
 -- The rows of a character set: MySQL 8.0 manual, 10.9 and 10.10.
 abbrev pub rows : Charset → List Row
-rows Latin1 = from_code 0x00 (from_to 0x00 0x7F ∷ []) ∷ from_code 0xA0 (from_to 0xA0 0xFF ∷ []) ∷ latin1_rows_80_to_9f
+rows Latin1 =
+    from_code 0x00 (from_to 0x00 0x7F ∷ []) ∷ from_code 0xA0 (from_to 0xA0 0xFF ∷ [])
+    ∷ latin1_rows_80_to_9f
 rows Ascii = from_code 0x00 (from_to 0x00 0x7F ∷ []) ∷ []
 rows Utf8mb3 = utf8_short_rows
 rows Utf8mb4 = utf8_short_rows ++ utf8_long_rows

@@ -4,12 +4,13 @@ ghost use Rattle.mc_charset.specs.Rows.{spelling_in};
 ghost use Rattle.std.specs.Prelude.{◌≡◌};
 ghost use Rattle.mc_charset.specs.NextChar.{IsFound};
 ghost use Rattle.mc_charset.specs.Tables.{rows};
-ghost use Rattle.mc_charset.specs.declared.charset.Charset.TheVariants.{Latin1, Ascii, Binary};
+ghost use Rattle.mc_charset.specs.declared.charset.Charset.TheVariants.{Ascii, Binary};
 
 use crate::char_at::CharAt;
 use crate::spelling::Spelling;
 
 /// The first character of a text in ascii.
+#[inline(always)]
 pub(crate) fn next_ascii(text: &[u8]) -> CharAt
     ensures { IsFound (rows Ascii) text.now result }
 {
@@ -24,6 +25,7 @@ pub(crate) fn next_ascii(text: &[u8]) -> CharAt
 }
 
 /// The first byte of binary data.
+#[inline(always)]
 pub(crate) fn next_binary(text: &[u8]) -> CharAt
     ensures { IsFound (rows Binary) text.now result }
 {
@@ -37,6 +39,7 @@ pub(crate) fn next_binary(text: &[u8]) -> CharAt
 }
 
 /// The spelling of a code point in ascii.
+#[inline(always)]
 pub(crate) fn spelling_ascii(code: u32) -> Option<Spelling>
     ensures { option_map bytes_of result ≡ spelling_in (rows Ascii) code }
 {
@@ -47,6 +50,7 @@ pub(crate) fn spelling_ascii(code: u32) -> Option<Spelling>
 }
 
 /// The byte of this number.
+#[inline(always)]
 pub(crate) fn spelling_binary(code: u32) -> Option<Spelling>
     ensures { option_map bytes_of result ≡ spelling_in (rows Binary) code }
 {

@@ -1,10 +1,11 @@
-ghost use Rattle.mc_charset.specs.CharStart.{IsCharStart, HasWidth};
+ghost use Rattle.mc_charset.specs.CharStart.{IsCharStart, HasWidth, begins_in_utf8};
 ghost use Rattle.mc_charset.specs.Chars.{chars, IsWellFormed};
-ghost use Rattle.std.specs.Prelude.{◌≡◌, ◌<◌, ◌≤◌, ◌^◌, IfSome, length};
+ghost use Rattle.std.specs.Prelude.{◌≡◌, ◌<◌, ◌≤◌, ◌^◌, IfSome, filter, length};
 
 use crate::char_at::CharAt;
 use crate::charset::Charset;
-use crate::front::next_char;
+use crate::encoding::{Encoding, next_in};
+use crate::encodings::{Ascii, Binary, Latin1, Ucs2, Utf8mb3, Utf8mb4, Utf16, Utf32};
 
 /// How many characters a well-formed text of fewer than 2^32 bytes has.
 pub fn char_count(set: Charset, text: &[u8]) -> u32
@@ -14,11 +15,12 @@ pub fn char_count(set: Charset, text: &[u8]) -> u32
 {
     match fixed_width(set) {
         Some(width) => (text.len() / width) as u32,
-        None => count_each(set, text),
+        None => count_varied(set, text),
     }
 }
 
-/// The byte place where character `k` begins, counted from 0, or the text's length where there are no more than `k`.
+/// The byte place where character `k` begins, counted from 0, or the text's length where there are
+/// no more than `k`.
 pub fn char_start(set: Charset, text: &[u8], k: u32) -> usize
     requires well_formed { IsWellFormed set text.now }
     requires below_4_gib { length text.now < 2 ^ 32 }
@@ -26,7 +28,7 @@ pub fn char_start(set: Charset, text: &[u8], k: u32) -> usize
 {
     match fixed_width(set) {
         Some(width) => (k as usize * width).min(text.len()),
-        None => start_behind(set, text, k),
+        None => start_varied(set, text, k),
     }
 }
 
@@ -42,16 +44,53 @@ fn fixed_width(set: Charset) -> Option<usize>
     }
 }
 
-/// Counts one character after the other.
-fn count_each(set: Charset, text: &[u8]) -> u32
+/// Counts in the way that suits the set.
+fn count_varied(set: Charset, text: &[u8]) -> u32
     requires well_formed { IsWellFormed set text.now }
     requires below_4_gib { length text.now < 2 ^ 32 }
     ensures { result ≡ length (chars set text.now) }
 {
+    match set {
+        Charset::Utf8mb3 | Charset::Utf8mb4 => count_firsts(text),
+        Charset::Latin1 => count_each::<Latin1>(text),
+        Charset::Ascii => count_each::<Ascii>(text),
+        Charset::Ucs2 => count_each::<Ucs2>(text),
+        Charset::Utf16 => count_each::<Utf16>(text),
+        Charset::Utf32 => count_each::<Utf32>(text),
+        Charset::Binary => count_each::<Binary>(text),
+    }
+}
+
+/// How many bytes begin a character in UTF-8.
+fn count_firsts(text: &[u8]) -> u32
+    requires { length text.now < 2 ^ 32 }
+    ensures { result ≡ length (filter begins_in_utf8 text.now) }
+{
+    let mut count = 0;
+    for byte in text {
+        count += u32::from(begins_in_utf8(*byte));
+    }
+    count
+}
+
+/// Whether the byte begins a character in UTF-8.
+#[inline(always)]
+fn begins_in_utf8(byte: u8) -> bool
+    ensures { result ≡ begins_in_utf8 byte }
+{
+    byte < 0x80 || byte >= 0xC0
+}
+
+/// Counts one character after the other.
+fn count_each<E: Encoding>(text: &[u8]) -> u32
+    requires well_formed { IsWellFormed E.set text.now }
+    requires below_4_gib { length text.now < 2 ^ 32 }
+    ensures { result ≡ length (chars E.set text.now) }
+{
     let mut count = 0;
     let mut rest = text;
     loop {
-        match next_char(set, rest) {
+        match next_in::<E>(rest) {
             CharAt::Char { len, .. } => {
                 count += 1;
                 rest = &rest[len..];
@@ -62,13 +101,30 @@ fn count_each(set: Charset, text: &[u8]) -> u32
 }
 
 /// Goes over `k` characters, or to the text's end.
-fn start_behind(set: Charset, text: &[u8], k: u32) -> usize
+fn start_varied(set: Charset, text: &[u8], k: u32) -> usize
     requires { IsWellFormed set text.now }
     ensures { IsCharStart set text.now k result }
 {
+    match set {
+        Charset::Latin1 => start_behind::<Latin1>(text, k),
+        Charset::Ascii => start_behind::<Ascii>(text, k),
+        Charset::Utf8mb3 => start_behind::<Utf8mb3>(text, k),
+        Charset::Utf8mb4 => start_behind::<Utf8mb4>(text, k),
+        Charset::Ucs2 => start_behind::<Ucs2>(text, k),
+        Charset::Utf16 => start_behind::<Utf16>(text, k),
+        Charset::Utf32 => start_behind::<Utf32>(text, k),
+        Charset::Binary => start_behind::<Binary>(text, k),
+    }
+}
+
+/// Goes over `k` characters of one set, or to the text's end.
+fn start_behind<E: Encoding>(text: &[u8], k: u32) -> usize
+    requires { IsWellFormed E.set text.now }
+    ensures { IsCharStart E.set text.now k result }
+{
     let mut start = 0;
     for passed in 0..k {
-        match next_char(set, &text[start..]) {
+        match next_in::<E>(&text[start..]) {
             CharAt::Char { len, .. } => start += len,
             CharAt::End | CharAt::Bad => return start,
         }

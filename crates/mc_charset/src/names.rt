@@ -1,34 +1,62 @@
-ghost use Rattle.mc_charset.specs.Names.{name_of, Names, is_unicode_set, built_in_names, bin_name};
-ghost use Rattle.mc_charset.specs.declared.charset.Charset.{Charset};
-ghost use Rattle.std.specs.Prelude.{◌≡◌, ◌↔◌, Some, slice_get};
+ghost use Rattle.mc_charset.specs.Names.{
+  name_of,
+  set_named,
+  same_set,
+  is_unicode_set,
+  built_in_names,
+  bin_name,
+};
+ghost use Rattle.std.specs.Char.{to_ascii_lowercase};
+ghost use Rattle.std.specs.Prelude.{◌≡◌, ◌↔◌, IsTrue, Some, map, slice_get};
+ghost use Rattle.std.specs.Str.{bytes_eq};
 
 use crate::charset::Charset;
 use crate::collation_id::CollId;
 
 /// The set of this name, the case of A to Z ignored; `utf8` is another name of utf8mb3.
 /// `None` exactly for other names. MySQL 8.0 manual, 10.2.
+#[tactic(auto, unfolding(crate::specs::Names::set_named))]
 pub fn charset_by_name(name: &[u8]) -> Option<Charset>
-    ensures { (set : Charset) → (result ≡ Some set) ↔ Names name.now set }
+    ensures { result ≡ set_named name.now }
 {
-    if name.eq_ignore_ascii_case(b"utf8mb4") {
-        Some(Charset::Utf8mb4)
-    } else if name.eq_ignore_ascii_case(b"latin1") {
+    if is_named(name, b"latin1") {
         Some(Charset::Latin1)
-    } else if name.eq_ignore_ascii_case(b"binary") {
-        Some(Charset::Binary)
-    } else if name.eq_ignore_ascii_case(b"ascii") {
+    } else if is_named(name, b"ascii") {
         Some(Charset::Ascii)
-    } else if name.eq_ignore_ascii_case(b"utf8mb3") || name.eq_ignore_ascii_case(b"utf8") {
+    } else if is_named(name, b"utf8mb3") {
         Some(Charset::Utf8mb3)
-    } else if name.eq_ignore_ascii_case(b"ucs2") {
+    } else if is_named(name, b"utf8mb4") {
+        Some(Charset::Utf8mb4)
+    } else if is_named(name, b"ucs2") {
         Some(Charset::Ucs2)
-    } else if name.eq_ignore_ascii_case(b"utf16") {
+    } else if is_named(name, b"utf16") {
         Some(Charset::Utf16)
-    } else if name.eq_ignore_ascii_case(b"utf32") {
+    } else if is_named(name, b"utf32") {
         Some(Charset::Utf32)
+    } else if is_named(name, b"binary") {
+        Some(Charset::Binary)
+    } else if is_named(name, b"utf8") {
+        Some(Charset::Utf8mb3)
     } else {
         None
     }
+}
+
+/// Whether this is the name in lower case, the case of A to Z ignored.
+fn is_named(name: &[u8], lower: &[u8]) -> bool
+    requires { map to_ascii_lowercase lower.now ≡ lower.now }
+    ensures { result ≡ bytes_eq (map to_ascii_lowercase name.now) lower.now }
+{
+    name.eq_ignore_ascii_case(lower)
+}
+
+/// Whether two sets are one.
+#[tactic(auto, unfolding(crate::specs::Names::same_set))]
+pub fn same_set(set: Charset, other: Charset) -> bool
+    ensures is { result ≡ same_set set other }
+    ensures one { IsTrue result ↔ (set ≡ other) }
+{
+    set == other
 }
 
 /// The name of a set, in lower case.
@@ -58,7 +86,8 @@ pub fn is_unicode(set: Charset) -> bool
     }
 }
 
-/// The binary collation of a set: `binary` for binary, else the one named after the set with `_bin`.
+/// The binary collation of a set: `binary` for binary, else the one named after the set with
+/// `_bin`.
 pub fn bin_of(set: Charset) -> CollId
     ensures { slice_get built_in_names result.0 ≡ Some (bin_name set) }
 {

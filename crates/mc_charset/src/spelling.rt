@@ -1,14 +1,15 @@
 ghost use Rattle.mc_charset.specs.Chars.{spell};
 ghost use Rattle.mc_charset.specs.PutChar.{bytes_of};
 ghost use Rattle.std.specs.Option.{option_map};
-ghost use Rattle.std.specs.Prelude.{◌≡◌};
+ghost use Rattle.std.specs.Prelude.{◌≡◌, ◌++◌, OnOk, OnErr};
 
 use crate::charset::Charset;
 use crate::{bytes, latin1, utf8, wide};
+use mc_base::{NoMemory, Text};
 
 /// The bytes that spell a character.
 #[derive(Clone, Copy)]
-pub(crate) enum Spelling {
+pub enum Spelling {
     One([u8; 1]),
     Two([u8; 2]),
     Three([u8; 3]),
@@ -30,6 +31,20 @@ impl Spelling {
             Charset::Ucs2 => wide::spelling_ucs2(code),
             Charset::Utf16 => wide::spelling_utf16(code),
             Charset::Utf32 => wide::spelling_utf32(code),
+        }
+    }
+
+    /// Appends its bytes.
+    #[inline(always)]
+    pub(crate) fn put(&self, out: &mut Text) -> Result<(), NoMemory>
+        ensures ok { OnOk result (out.new ≡ out.old ++ bytes_of self.now) }
+        ensures err { OnErr result (out.new ≡ out.old) }
+    {
+        match self {
+            Spelling::One(bytes) => out.extend_from_slice(bytes),
+            Spelling::Two(bytes) => out.extend_from_slice(bytes),
+            Spelling::Three(bytes) => out.extend_from_slice(bytes),
+            Spelling::Four(bytes) => out.extend_from_slice(bytes),
         }
     }
 

@@ -3,12 +3,13 @@ ghost use Rattle.std.specs.Option.{option_map};
 ghost use Rattle.mc_charset.specs.Rows.{spelling_in};
 ghost use Rattle.mc_charset.specs.NextChar.{IsFound};
 ghost use Rattle.mc_charset.specs.Tables.{utf8_short_rows, utf8_long_rows};
-ghost use Rattle.std.specs.Prelude.{◌≡◌, ◌≤◌, ◌+◌, ◌-◌, ◌*◌, ◌++◌, ◌%◌};
+ghost use Rattle.std.specs.Prelude.{◌≡◌, ◌≤◌, ◌+◌, ◌-◌, ◌*◌, ◌++◌, ◌%◌, drop};
 
 use crate::char_at::CharAt;
 use crate::spelling::Spelling;
 
 /// The first character by all nine rows of the Unicode Standard's Table 3-7.
+#[inline(always)]
 pub(crate) fn next(text: &[u8]) -> CharAt
     ensures { IsFound (utf8_short_rows ++ utf8_long_rows) text.now result }
 {
@@ -19,6 +20,7 @@ pub(crate) fn next(text: &[u8]) -> CharAt
 }
 
 /// The first character by the first six rows: up to three bytes.
+#[inline(always)]
 pub(crate) fn next_short(text: &[u8]) -> CharAt
     ensures { IsFound utf8_short_rows text.now result }
 {
@@ -29,6 +31,17 @@ pub(crate) fn next_short(text: &[u8]) -> CharAt
             len: 1,
         },
         [a @ 0xC2..=0xDF, b @ 0x80..=0xBF, ..] => two(a, b),
+        _ => next_three(text),
+    }
+}
+
+/// The first character by the rows of three bytes.
+#[inline(always)]
+fn next_three(text: &[u8]) -> CharAt
+    ensures { IsFound (drop 2 utf8_short_rows) text.now result }
+{
+    match *text {
+        [] => CharAt::End,
         [a @ 0xE0, b @ 0xA0..=0xBF, c @ 0x80..=0xBF, ..] => three(a, b, c),
         [a @ 0xE1..=0xEC, b @ 0x80..=0xBF, c @ 0x80..=0xBF, ..] => three(a, b, c),
         [a @ 0xED, b @ 0x80..=0x9F, c @ 0x80..=0xBF, ..] => three(a, b, c),
@@ -38,6 +51,7 @@ pub(crate) fn next_short(text: &[u8]) -> CharAt
 }
 
 /// The first character by the last three rows: four bytes.
+#[inline(always)]
 fn next_long(text: &[u8]) -> CharAt
     ensures { IsFound utf8_long_rows text.now result }
 {
@@ -50,6 +64,17 @@ fn next_long(text: &[u8]) -> CharAt
             d @ 0x80..=0xBF,
             ..
         ] => four(a, b, c, d),
+        _ => next_longer(text),
+    }
+}
+
+/// The first character by the last two rows: from 40000 on.
+#[inline(always)]
+fn next_longer(text: &[u8]) -> CharAt
+    ensures { IsFound (drop 1 utf8_long_rows) text.now result }
+{
+    match *text {
+        [] => CharAt::End,
         [
             a @ 0xF1..=0xF3,
             b @ 0x80..=0xBF,
@@ -68,6 +93,7 @@ fn next_long(text: &[u8]) -> CharAt
     }
 }
 
+#[inline(always)]
 fn two(a: u8, b: u8) -> CharAt
     requires first { 0xC0 ≤ a }
     requires second { 0x80 ≤ b }
@@ -79,6 +105,7 @@ fn two(a: u8, b: u8) -> CharAt
     }
 }
 
+#[inline(always)]
 fn three(a: u8, b: u8, c: u8) -> CharAt
     requires first { 0xE0 ≤ a }
     requires second { 0x80 ≤ b }
@@ -91,12 +118,14 @@ fn three(a: u8, b: u8, c: u8) -> CharAt
     }
 }
 
+#[inline(always)]
 fn four(a: u8, b: u8, c: u8, d: u8) -> CharAt
     requires first { 0xF0 ≤ a }
     requires second { 0x80 ≤ b }
     requires third { 0x80 ≤ c }
     requires fourth { 0x80 ≤ d }
-    ensures { result ≡ CharAt.Char ((a - 0xF0) * 262144 + (b - 0x80) * 4096 + (c - 0x80) * 64 + (d - 0x80)) 4 }
+    ensures { result ≡ CharAt.Char ((a - 0xF0) * 262144 + (b - 0x80) * 4096 + (c - 0x80) * 64 +
+        (d - 0x80)) 4 }
 {
     CharAt::Char {
         code: u32::from(a - 0xF0) * 262144
@@ -108,6 +137,7 @@ fn four(a: u8, b: u8, c: u8, d: u8) -> CharAt
 }
 
 /// The spelling of a code point by all nine rows.
+#[inline(always)]
 pub(crate) fn spelling(code: u32) -> Option<Spelling>
     ensures { option_map bytes_of result ≡ spelling_in (utf8_short_rows ++ utf8_long_rows) code }
 {
@@ -123,6 +153,7 @@ pub(crate) fn spelling(code: u32) -> Option<Spelling>
 }
 
 /// The spelling of a code point by the first six rows.
+#[inline(always)]
 pub(crate) fn spelling_short(code: u32) -> Option<Spelling>
     ensures { option_map bytes_of result ≡ spelling_in utf8_short_rows code }
 {
@@ -139,6 +170,7 @@ pub(crate) fn spelling_short(code: u32) -> Option<Spelling>
 }
 
 /// A byte behind the first: the last six bits.
+#[inline(always)]
 fn trail(bits: u32) -> u8
     ensures { result ≡ 0x80 + bits % 0x40 }
 {

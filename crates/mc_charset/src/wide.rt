@@ -2,13 +2,19 @@ ghost use Rattle.mc_charset.specs.PutChar.{bytes_of};
 ghost use Rattle.std.specs.Option.{option_map};
 ghost use Rattle.mc_charset.specs.Rows.{spelling_in, sequence};
 ghost use Rattle.mc_charset.specs.NextChar.{IsFound};
-ghost use Rattle.mc_charset.specs.Tables.{from_to, two_byte_rows, surrogate_pair_rows, four_byte_rows};
+ghost use Rattle.mc_charset.specs.Tables.{
+  from_to,
+  two_byte_rows,
+  surrogate_pair_rows,
+  four_byte_rows,
+};
 ghost use Rattle.std.specs.Prelude.{◌≡◌, ◌<◌, ◌+◌, ◌*◌, ◌++◌, ◌%◌, ◌∷◌, []};
 
 use crate::char_at::CharAt;
 use crate::spelling::Spelling;
 
 /// The first character of a text in ucs2: two bytes, no surrogate.
+#[inline(always)]
 pub(crate) fn next_ucs2(text: &[u8]) -> CharAt
     ensures { IsFound two_byte_rows text.now result }
 {
@@ -27,6 +33,7 @@ pub(crate) fn next_ucs2(text: &[u8]) -> CharAt
 }
 
 /// The first character of a text in utf16: two bytes, or the four of a surrogate pair.
+#[inline(always)]
 pub(crate) fn next_utf16(text: &[u8]) -> CharAt
     ensures { IsFound (two_byte_rows ++ surrogate_pair_rows) text.now result }
 {
@@ -37,6 +44,7 @@ pub(crate) fn next_utf16(text: &[u8]) -> CharAt
 }
 
 /// The first surrogate pair.
+#[inline(always)]
 fn next_pair(text: &[u8]) -> CharAt
     ensures { IsFound surrogate_pair_rows text.now result }
 {
@@ -51,6 +59,7 @@ fn next_pair(text: &[u8]) -> CharAt
 }
 
 /// The first character of a text in utf32: four bytes, no surrogate, up to 10FFFF.
+#[inline(always)]
 pub(crate) fn next_utf32(text: &[u8]) -> CharAt
     ensures { IsFound four_byte_rows text.now result }
 {
@@ -72,12 +81,14 @@ pub(crate) fn next_utf32(text: &[u8]) -> CharAt
     }
 }
 
+#[inline(always)]
 fn unit(high: u8, low: u8) -> u32
     ensures { result ≡ high * 256 + low }
 {
     u32::from(high) * 256 + u32::from(low)
 }
 
+#[inline(always)]
 fn pair(high: u32, low: u32) -> u32
     requires high { high < 1024 }
     requires low { low < 1024 }
@@ -87,6 +98,7 @@ fn pair(high: u32, low: u32) -> u32
 }
 
 /// The spelling of a code point in ucs2.
+#[inline(always)]
 pub(crate) fn spelling_ucs2(code: u32) -> Option<Spelling>
     ensures { option_map bytes_of result ≡ spelling_in two_byte_rows code }
 {
@@ -97,6 +109,7 @@ pub(crate) fn spelling_ucs2(code: u32) -> Option<Spelling>
 }
 
 /// The spelling of a code point in utf16.
+#[inline(always)]
 pub(crate) fn spelling_utf16(code: u32) -> Option<Spelling>
     ensures { option_map bytes_of result ≡ spelling_in (two_byte_rows ++ surrogate_pair_rows) code }
 {
@@ -107,9 +120,11 @@ pub(crate) fn spelling_utf16(code: u32) -> Option<Spelling>
 }
 
 /// The surrogate pair of the code point at this place above FFFF.
+#[inline(always)]
 fn surrogates(place: u32) -> Spelling
     requires { place < 0x100000 }
-    ensures { bytes_of result ≡ sequence (from_to 0xD8 0xDB ∷ from_to 0x00 0xFF ∷ from_to 0xDC 0xDF ∷ from_to 0x00 0xFF ∷ []) place }
+    ensures { bytes_of result ≡ sequence (from_to 0xD8 0xDB ∷ from_to 0x00 0xFF ∷ from_to 0xDC 0xDF
+        ∷ from_to 0x00 0xFF ∷ []) place }
 {
     Spelling::Four([
         0xD8 + (place / 0x40000) as u8,
@@ -120,6 +135,7 @@ fn surrogates(place: u32) -> Spelling
 }
 
 /// The spelling of a code point in utf32.
+#[inline(always)]
 pub(crate) fn spelling_utf32(code: u32) -> Option<Spelling>
     ensures { option_map bytes_of result ≡ spelling_in four_byte_rows code }
 {
@@ -135,6 +151,7 @@ pub(crate) fn spelling_utf32(code: u32) -> Option<Spelling>
 }
 
 /// The last eight bits.
+#[inline(always)]
 fn low(bits: u32) -> u8
     ensures { result ≡ bits % 0x100 }
 {

@@ -115,22 +115,76 @@ HasPassed set text class rest =
     (other : Repertoire) → HasAll set other (chars set text)
     ↔ ((rank class ≤ rank other) × HasAll set other (chars set rest))
 
-pub HasPassed_step : (set : Charset) (text rest : List ℕ) (code len : ℕ)
-    (class step joined : Repertoire)
+pub HasPassed_step : (set : Charset) (text rest : List ℕ) (code len : ℕ) (class joined : Repertoire)
     → HasPassed set text class rest → chars set rest ≡ code ∷ chars set (drop len rest)
-    → ((other : Repertoire) → HasIn set other code ↔ (rank step ≤ rank other))
-    → rank joined ≡ max (rank class) (rank step)
+    → ((other : Repertoire) → (rank joined ≤ rank other) ↔ ((rank class ≤ rank other) × HasIn set other code))
     → HasPassed set text joined (take (length rest - len) (drop len rest))
-HasPassed_step set text rest code len class step joined passed e s m other =
-    let b = rest_behind len rest in
+HasPassed_step set text rest code len class joined passed e j other =
     let e' : chars set rest ≡ code ∷ chars set (take (length rest - len) (drop len rest)) =
-    e ∙ ap (λ t. code ∷ chars set t) (sym b) in
-    let p = passed other in (
-      (λ h. let q = p.0 h in let r = subst (HasAll set other) e' q.1 in let u = q.0 in let v =
-          (s other).0 r.0 in (omega arith, r.1)),
-      (λ h. let u = h.0 in p.1
-          (omega arith, subst (HasAll set other) (sym e') ((s other).1 (omega arith), h.1))),
+    e ∙ ap (λ t. code ∷ chars set t) (sym (rest_behind len rest)) in
+    let p = passed other in
+    let q = j other in (
+      (λ h. let u = p.0 h in let r = subst (HasAll set other) e' u.1 in (q.1 (u.0, r.0), r.1)),
+      (λ h. let u = q.0 h.0 in p.1 (u.0, subst (HasAll set other) (sym e') (u.1, h.1))),
     )
+
+-- One more character
+
+low_more : (class other : Repertoire) (P : Type 0) → P → (rank class ≤ rank other) ↔ ((rank class ≤ rank other) × P)
+low_more class other P p = ((λ h. (h, p)), (λ h. h.0))
+
+-- A character below 80 asks for no greater class.
+pub joined_low : (set : Charset) (class other : Repertoire) (code : ℕ) → code < 0x80
+    → (rank class ≤ rank other) ↔ ((rank class ≤ rank other) × HasIn set other code)
+joined_low set class other code h = low_more class other (HasIn set other code) (low_in set other code h)
+
+-- A byte from 80 on asks for Bytes.
+pub joined_byte : (set : Charset) (class other : Repertoire) (code : ℕ) → set ≡ Binary → 0x80 ≤ code
+    → (4 ≤ rank other) ↔ ((rank class ≤ rank other) × HasIn set other code)
+joined_byte set class other code e h = subst (λ (s : Charset). (4 ≤ rank other) ↔ ((rank class ≤ rank other) × HasIn s other code)) (sym e) (at_binary other)
+  where
+    below : (c : Repertoire) → rank c ≤ 4
+    below Ascii = omega arith
+    below Latin1 = omega arith
+    below Bmp = omega arith
+    below Unicode = omega arith
+    below Bytes = omega arith
+
+    at_binary : (o : Repertoire) → (4 ≤ rank o) ↔ ((rank class ≤ rank o) × HasIn Binary o code)
+    at_binary Ascii = ((λ a. absurd (omega arith)), (λ b. let low = b.1 in absurd (omega arith)))
+    at_binary Latin1 = ((λ a. absurd (omega arith)), (λ b. let low = b.1 in absurd (omega arith)))
+    at_binary Bmp = ((λ a. absurd (omega arith)), (λ b. let low = b.1 in absurd (omega arith)))
+    at_binary Unicode = ((λ a. absurd (omega arith)), (λ b. let low = b.1 in absurd (omega arith)))
+    at_binary Bytes = ((λ a. (below class, tt)), (λ b. omega arith))
+
+bmp_has : (other : Repertoire) (code : ℕ) → 2 ≤ rank other → code < 0x10000 → Has other code
+bmp_has Ascii code h k = absurd (omega arith)
+bmp_has Latin1 code h k = absurd (omega arith)
+bmp_has Bmp code h k = k
+bmp_has Unicode code h k = tt
+bmp_has Bytes code h k = tt
+
+-- A class from Bmp on has each character up to FFFF.
+pub joined_bmp : (class other : Repertoire) (code : ℕ) → 2 ≤ rank class → code < 0x10000
+    → (rank class ≤ rank other) ↔ ((rank class ≤ rank other) × Has other code)
+joined_bmp class other code h k = ((λ l. (l, bmp_has other code (omega arith) k)), (λ b. b.0))
+
+-- The greater of two classes has what both have.
+pub joined_max : (class step joined other : Repertoire) (code : ℕ) → Has other code ↔ (rank step ≤ rank other)
+    → rank joined ≡ max (rank class) (rank step)
+    → (rank joined ≤ rank other) ↔ ((rank class ≤ rank other) × Has other code)
+joined_max class step joined other code h m = (
+  (λ l. (omega (arith, m), h.1 (omega (arith, m)))),
+  (λ b. let c = b.0 in let s = h.0 b.1 in omega (arith, m)),
+)
+
+-- From 10000 on only Unicode and Bytes have a character.
+pub high_classes : (class : Repertoire) (code : ℕ) → 0x10000 ≤ code → Has class code ↔ (3 ≤ rank class)
+high_classes Ascii code h = ((λ a. absurd (omega arith)), (λ b. absurd (omega arith)))
+high_classes Latin1 code h = ((λ a. let l = latin1_below code a in absurd (omega arith)), (λ b. absurd (omega arith)))
+high_classes Bmp code h = ((λ a. absurd (omega arith)), (λ b. absurd (omega arith)))
+high_classes Unicode code h = ((λ a. omega arith), (λ b. tt))
+high_classes Bytes code h = ((λ a. omega arith), (λ b. tt))
 
 -- An answer that is no character leaves no characters.
 pub nothing : (set : Charset) (rest : List ℕ) (answer : CharAt) → HeadsChars set rest answer

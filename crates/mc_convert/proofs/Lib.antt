@@ -4,3 +4,5 @@ pub mod Conversions
 pub mod CodePoints
 pub mod Lossless
 pub mod Caps
+pub mod Texts
+pub mod StepLemmas

@@ -6,7 +6,7 @@ use Rattle.std.proofs.lemmas.Bool.Decides.{nat_tests}
 use Rattle.mc_charset.specs.declared.charset.Charset.{Charset}
 use Rattle.mc_charset.specs.declared.charset.Charset.TheVariants.{Latin1, Ascii, Utf8mb3, Utf8mb4, Binary}
 use Rattle.mc_charset.specs.Chars.{spell, spell_all, Spells, chars}
-use Rattle.mc_convert.specs.Plain.{IsPlain}
+use Rattle.mc_convert.specs.Plain.{IsPlain, SpellsAscii}
 
 abbrev pub SpellsLow : Charset → Type 0
 SpellsLow set = (b : ℕ) → b < 0x80 → spell set b ≡ Some (b ∷ [])
@@ -47,22 +47,23 @@ plain_of d set text h k =
     let s = spelled_low set text h k in record
     { spelled = s; its_chars = d set text text s; below = k }
 
-low_plain : Decodes → (set : Charset) (text : List ℕ)
+-- The sets of one byte below 80 spell ASCII by its bytes.
+pub spells_ascii : Decodes → (set : Charset)
     → (set ≡ Latin1) ⊎ ((set ≡ Ascii) ⊎ ((set ≡ Utf8mb3) ⊎ ((set ≡ Utf8mb4) ⊎ (set ≡ Binary))))
-    → ((k : ℕ) → get_or text k 0 < 0x80) → IsPlain set text
-low_plain d set text (inl e) k =
-    subst (λ (s : Charset). IsPlain s text) (sym e) (plain_of d Latin1 text latin1_plain k)
-low_plain d set text (inr (inl e)) k =
-    subst (λ (s : Charset). IsPlain s text) (sym e) (plain_of d Ascii text ascii_plain k)
-low_plain d set text (inr (inr (inl e))) k =
-    subst (λ (s : Charset). IsPlain s text) (sym e) (plain_of d Utf8mb3 text utf8mb3_plain k)
-low_plain d set text (inr (inr (inr (inl e)))) k =
-    subst (λ (s : Charset). IsPlain s text) (sym e) (plain_of d Utf8mb4 text utf8mb4_plain k)
-low_plain d set text (inr (inr (inr (inr e)))) k =
-    subst (λ (s : Charset). IsPlain s text) (sym e) (plain_of d Binary text binary_plain k)
+    → SpellsAscii set
+spells_ascii d set (inl e) = subst SpellsAscii (sym e) (λ text k. plain_of d Latin1 text latin1_plain k)
+spells_ascii d set (inr (inl e)) = subst SpellsAscii (sym e) (λ text k. plain_of d Ascii text ascii_plain k)
+spells_ascii d set (inr (inr (inl e))) = subst SpellsAscii (sym e) (λ text k. plain_of d Utf8mb3 text utf8mb3_plain k)
+spells_ascii d set (inr (inr (inr (inl e)))) = subst SpellsAscii (sym e) (λ text k. plain_of d Utf8mb4 text utf8mb4_plain k)
+spells_ascii d set (inr (inr (inr (inr e)))) = subst SpellsAscii (sym e) (λ text k. plain_of d Binary text binary_plain k)
 
-pub plain_tells : (answer : Bool) (set : Charset) (text : List ℕ) → Decodes
-    → (set ≡ Latin1) ⊎ ((set ≡ Ascii) ⊎ ((set ≡ Utf8mb3) ⊎ ((set ≡ Utf8mb4) ⊎ (set ≡ Binary))))
+-- A text that is seen to be ASCII is spelled by its bytes.
+pub plain_tells : (answer : Bool) (set : Charset) (text : List ℕ) → SpellsAscii set
     → MatchBool answer (IsAscii text) (IsNotAscii text) → OnTrue answer (IsPlain set text)
-plain_tells true set text d e h = low_plain d set text e h
-plain_tells false set text d e h = tt
+plain_tells true set text ascii h = ascii text h
+plain_tells false set text ascii h = tt
+
+pub both_tell_plain : (answer : Bool) (from to : Charset) (text : List ℕ) → SpellsAscii from → SpellsAscii to
+    → MatchBool answer (IsAscii text) (IsNotAscii text) → OnTrue answer (IsPlain from text × IsPlain to text)
+both_tell_plain true from to text f t h = (f text h, t text h)
+both_tell_plain false from to text f t h = tt

@@ -1,10 +1,14 @@
 -- Repertoires, a chain of classes of characters: MySQL 8.0 manual, 10.2.1.
 use Rattle.std.specs.Prelude.{ℕ, ◌<◌, ◌≤◌, List, [], ◌∷◌, IsSome}
 use Rattle.mc_charset.specs.declared.charset.Charset.{Charset}
-use Rattle.mc_charset.specs.declared.charset.Charset.TheVariants.{Latin1 as SetLatin1, Ascii as SetAscii, Utf8mb3, Utf8mb4, Ucs2, Utf16, Utf32, Binary}
+use Rattle.mc_charset.specs.declared.charset.Charset.TheVariants.{Latin1 as SetLatin1}
+use Rattle.mc_charset.specs.declared.charset.Charset.TheVariants.{Ascii as SetAscii, Utf8mb3}
+use Rattle.mc_charset.specs.declared.charset.Charset.TheVariants.{Utf8mb4, Ucs2, Utf16, Utf32}
+use Rattle.mc_charset.specs.declared.charset.Charset.TheVariants.{Binary}
 use Rattle.mc_charset.specs.Chars.{spell, chars}
 use Rattle.mc_convert.specs.declared.repertoire.Repertoire.{Repertoire}
-use Rattle.mc_convert.specs.declared.repertoire.Repertoire.TheVariants.{Ascii, Latin1, Bmp, Unicode, Bytes}
+use Rattle.mc_convert.specs.declared.repertoire.Repertoire.TheVariants.{Ascii, Latin1, Bmp, Unicode}
+use Rattle.mc_convert.specs.declared.repertoire.Repertoire.TheVariants.{Bytes}
 
 -- The place of a class in the chain.
 abbrev pub rank : Repertoire → ℕ

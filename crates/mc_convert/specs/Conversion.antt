@@ -1,9 +1,12 @@
 -- Conversion between character sets: MySQL 8.0 manual, 10.10 and 12.10.
-use Rattle.std.specs.Prelude.{◌≡◌, ℕ, ◌-◌, ◌%◌, ◌<◌, Bool, true, false, not, ◌&&◌, ◌||◌, List, [], ◌∷◌, ◌++◌, Option, Some, None, length, take, map, slice_index, nat_lt, MatchBool, if◌then◌else◌}
+use Rattle.std.specs.Prelude.{◌≡◌, ℕ, ◌-◌, ◌%◌, ◌<◌, Bool, true, false, not, ◌&&◌, ◌||◌, List, []}
+use Rattle.std.specs.Prelude.{◌∷◌, ◌++◌, Option, Some, None, length, take, map, slice_index, nat_lt}
+use Rattle.std.specs.Prelude.{unwrap_or, MatchBool, if◌then◌else◌}
+use Rattle.std.specs.List.{flat_map}
 use Rattle.std.specs.Option.{is_some}
 use Rattle.mc_charset.specs.declared.charset.Charset.{Charset}
 use Rattle.mc_charset.specs.declared.charset.Charset.TheVariants.{Ucs2, Utf16, Utf32, Binary}
-use Rattle.mc_charset.specs.Chars.{spell, chars, Spells, IsWellFormed}
+use Rattle.mc_charset.specs.Chars.{spell, chars, is_spelled, Spells, IsWellFormed}
 
 -- The set is binary.
 abbrev pub is_binary : Charset → Bool
@@ -25,6 +28,16 @@ IsConverted from to text converted =
     MatchBool (is_binary to) (converted ≡ text)
     (Spells to (map (stand_in from to) (chars from text)) converted)
 
+-- The spelling of a character in a set that has it.
+abbrev pub spelling : Charset → ℕ → List ℕ
+spelling set code = unwrap_or (spell set code) []
+
+-- The converted text as a function: the spellings of its characters, one behind the other.
+unfoldable pub converted_text : Charset → Charset → List ℕ → List ℕ
+converted_text from to text =
+    if is_binary to then text
+    else flat_map (λ code. spelling to (stand_in from to code)) (chars from text)
+
 -- `to` has each character of the text.
 abbrev pub AllFit : Charset → Charset → List ℕ → Type 0
 AllFit from to text =
@@ -33,6 +46,11 @@ AllFit from to text =
 -- No character is lost.
 abbrev pub IsLossless : Charset → Charset → List ℕ → Type 0
 IsLossless from to text = MatchBool (is_binary to) Unit (AllFit from to text)
+
+-- `to` has each spelling of `from`. Both are binary, or none is.
+pub record HasSpellings (to from : Charset) : Type 0 where
+  pub spelled : (codes text : List ℕ) → Spells from codes text → Spells to codes text
+  pub alike : is_binary from ≡ is_binary to
 
 -- Each character has in `to` the bytes that it has in the text.
 pub record KeepsBytes (from to : Charset) (text : List ℕ) : Type 0 where
@@ -61,7 +79,16 @@ abbrev pub padded : Charset → List ℕ → List ℕ
 padded to bytes =
     take ((unit_len to - length bytes % unit_len to) % unit_len to) (0 ∷ 0 ∷ 0 ∷ []) ++ bytes
 
+-- The text, or nothing exactly where it is malformed.
+abbrev pub IsTaken : Charset → List ℕ → Option (List ℕ) → Type 0
+IsTaken to text None = IsWellFormed to text → ⊥
+IsTaken to text (Some taken) = (taken ≡ text) × IsWellFormed to text
+
 -- The padded bytes, or nothing exactly where they are malformed.
 abbrev pub IsReinterpreted : Charset → List ℕ → Option (List ℕ) → Type 0
-IsReinterpreted to bytes None = IsWellFormed to (padded to bytes) → ⊥
-IsReinterpreted to bytes (Some text) = (text ≡ padded to bytes) × IsWellFormed to (padded to bytes)
+IsReinterpreted to bytes answer = IsTaken to (padded to bytes) answer
+
+-- What bytes are taken for, as a function: the padded bytes, where they are a text of the set.
+unfoldable pub taken_for : Charset → List ℕ → Option (List ℕ)
+taken_for set bytes =
+    if is_spelled set (padded set bytes) then Some (padded set bytes) else None

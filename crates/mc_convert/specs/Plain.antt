@@ -8,3 +8,7 @@ pub record IsPlain (set : Charset) (text : List ℕ) : Type 0 where
   pub spelled : Spells set text text
   pub its_chars : chars set text ≡ text
   pub below : (k : ℕ) → slice_index text k < 0x80
+
+-- The set spells each text of characters below U+0080 by their bytes.
+abbrev pub SpellsAscii : Charset → Type 0
+SpellsAscii set = (text : List ℕ) → ((k : ℕ) → slice_index text k < 0x80) → IsPlain set text

@@ -1,89 +1,166 @@
-ghost use Rattle.mc_charset.specs.Chars.{spell, chars, Spells, IsWellFormed};
-ghost use Rattle.mc_convert.specs.Conversion.{IsConverted, KeepsBytes, is_binary, stand_in};
+ghost use Rattle.mc_charset.specs.Chars.{chars, Spells, IsWellFormed};
+ghost use Rattle.mc_convert.specs.Conversion.{
+  IsConverted,
+  IsFirstLost,
+  IsLossless,
+  KeepsBytes,
+  HasSpellings,
+  converted_text,
+  is_binary,
+  stand_in,
+};
+ghost use Rattle.mc_convert.specs.Steps.{IsLostPlace};
 ghost use Rattle.std.specs.Bool.{OnTrue};
-ghost use Rattle.std.specs.Option.{option_map};
-ghost use Rattle.std.specs.Prelude.{◌≡◌, ◌++◌, IfOk, OnOk, OnErr, map, false};
+ghost use Rattle.std.specs.Prelude.{
+  ◌≡◌,
+  ◌<◌,
+  [],
+  IfOk,
+  IfSome,
+  OnOk,
+  MatchOption,
+  length,
+  map,
+  false,
+};
 
-use crate::plain::is_plain;
+use crate::padding::unit;
+use crate::plain::are_plain;
+use crate::steps::convert_each;
 use mc_base::{NoMemory, Text};
-use mc_charset::{CharAt, Charset, PutChar, chars_law, next_char, put_char};
+use mc_charset::{
+    Ascii, Binary, Charset, Encoding, Latin1, Ucs2, Utf8mb3, Utf8mb4, Utf16, Utf32, bytes_law,
+    chars_law, wider_law,
+};
 use std::alloc::Global;
-
-const QUESTION_MARK: u32 = 0x3F;
 
 /// A well-formed text in another set: each character there, or `?` where that set lacks it.
 /// To binary the bytes stay; from binary a byte below 80 is that character and any other one
 /// becomes `?`.
 pub fn convert(alloc: Global, from: Charset, to: Charset, text: &[u8]) -> Result<Text, NoMemory>
     requires { IsWellFormed from text.now }
-    ensures { IfOk result (λ converted. IsConverted from to text.now converted) }
+    ensures converts { IfOk result (λ converted. IsConverted from to text.now converted) }
+    ensures is { IfOk result (λ converted. converted ≡ converted_text from to text.now) }
+    ensures well_formed { IfOk result (λ converted. IsWellFormed to converted) }
 {
-    if is_binary(to) {
-        return Text::from_slice(alloc, text);
+    bytes_law(text);
+    match convert_once(alloc, from, to, text) {
+        Ok(converted) => Ok(converted.text),
+        Err(NoMemory) => Err(NoMemory),
     }
-    if keeps_bytes(from, to, text) {
-        return Text::from_slice(alloc, text);
-    }
-    convert_each(alloc, from, to, text)
 }
 
-/// Whether the text is seen to have the same spelling in another set than binary.
-pub(crate) fn keeps_bytes(from: Charset, to: Charset, text: &[u8]) -> bool
+/// A text in another set, and the place of the first character that the set lacks, counted in
+/// characters from 0.
+#[derive(Drop)]
+pub(crate) struct Converted {
+    pub(crate) text: Text,
+    pub(crate) lost: Option<usize>,
+}
+
+/// The text in another set, in one turn.
+pub(crate) fn convert_once(
+    alloc: Global,
+    from: Charset,
+    to: Charset,
+    text: &[u8],
+) -> Result<Converted, NoMemory>
+    requires { IsWellFormed from text.now }
+    ensures is { IfOk result (λ converted. IsConverted from to text.now converted.text) }
+    ensures lost { IfOk result (λ converted. MatchOption converted.lost
+        (IsLossless from to text.now) (λ place. IsFirstLost from to text.now place)) }
+    ensures within { IfOk result (λ converted.
+        IfSome converted.lost (λ place. place < length text.now)) }
+{
+    if is_binary(to) || keeps_bytes(from, to, text) {
+        return Ok(Converted {
+            text: Text::from_slice(alloc, text)?,
+            lost: None,
+        });
+    }
+    let mut converted = Text::new(alloc);
+    let lost = fill(from, to, text, &mut converted)?;
+    Ok(Converted {
+        text: converted,
+        lost,
+    })
+}
+
+/// Whether the text is seen to have the same spelling in another set than binary: that set has each
+/// spelling of the first one, or both spell ASCII alike and the text is ASCII.
+fn keeps_bytes(from: Charset, to: Charset, text: &[u8]) -> bool
     requires well_formed { IsWellFormed from text.now }
     requires not_to_binary { is_binary to ≡ false }
     ensures { OnTrue result (KeepsBytes from to text.now) }
 {
-    if from == to {
-        chars_law();
+    chars_law();
+    if has_spellings(to, from) {
         return true;
     }
-    is_plain(from, text) && is_plain(to, text)
+    are_plain(from, to, text)
 }
 
-/// Converts one character after the other.
-fn convert_each(alloc: Global, from: Charset, to: Charset, text: &[u8]) -> Result<Text, NoMemory>
-    ensures { IfOk result
-        (λ converted. Spells to (map (stand_in from to) (chars from text.now)) converted) }
+/// Whether a set has each spelling of the other one: it is that one, or utf8mb4 beside utf8mb3, or
+/// utf16 beside ucs2.
+fn has_spellings(to: Charset, from: Charset) -> bool
+    ensures { OnTrue result (HasSpellings to from) }
 {
-    let mut converted = Text::new(alloc);
-    let mut rest = text;
-    loop {
-        match next_char(from, rest) {
-            CharAt::Char { code, len } => {
-                put_stand_in(from, to, code, &mut converted)?;
-                rest = &rest[len..];
-            }
-            CharAt::End | CharAt::Bad => return Ok(converted),
-        }
+    wider_law();
+    match (from, to) {
+        (Charset::Utf8mb3, Charset::Utf8mb4) => true,
+        (Charset::Ucs2, Charset::Utf16) => true,
+        _ => from == to,
     }
 }
 
-/// Appends the character itself where the set has it, else `?`.
-fn put_stand_in(from: Charset, to: Charset, code: u32, out: &mut Text) -> Result<(), NoMemory>
-    ensures ok { OnOk result
-        (option_map (λ front. out.old ++ front) (spell to (stand_in from to code)) ≡ Some out.new) }
-    ensures err { OnErr result (out.new ≡ out.old) }
+/// Converts each character into the empty text, for which room is made once.
+fn fill(from: Charset, to: Charset, text: &[u8], out: &mut Text) -> Result<Option<usize>, NoMemory>
+    requires { out.old ≡ [] }
+    ensures spells { OnOk result (Spells to
+        (map (stand_in from to) (chars from text.now)) out.new) }
+    ensures lost { IfOk result (λ lost. IsLostPlace from to text.now lost) }
+    ensures within { IfOk result (λ lost. IfSome lost (λ place. place < length text.now)) }
 {
-    if is_binary(from) && code >= 0x80 {
-        return put_question_mark(to, out);
-    }
-    match put_char(to, code, out) {
-        Ok(()) => Ok(()),
-        Err(PutChar::Unfit) => put_question_mark(to, out),
-        Err(PutChar::NoMemory) => Err(NoMemory),
+    out.reserve(room(from, to, text.len()))?;
+    match from {
+        Charset::Latin1 => fill_from::<Latin1>(to, text, out),
+        Charset::Ascii => fill_from::<Ascii>(to, text, out),
+        Charset::Utf8mb3 => fill_from::<Utf8mb3>(to, text, out),
+        Charset::Utf8mb4 => fill_from::<Utf8mb4>(to, text, out),
+        Charset::Ucs2 => fill_from::<Ucs2>(to, text, out),
+        Charset::Utf16 => fill_from::<Utf16>(to, text, out),
+        Charset::Utf32 => fill_from::<Utf32>(to, text, out),
+        Charset::Binary => fill_from::<Binary>(to, text, out),
     }
 }
 
-/// Appends `?`, which each set has.
-fn put_question_mark(to: Charset, out: &mut Text) -> Result<(), NoMemory>
-    ensures ok { OnOk result
-        (option_map (λ front. out.old ++ front) (spell to 0x3F) ≡ Some out.new) }
-    ensures err { OnErr result (out.new ≡ out.old) }
+/// Converts from one set into any other.
+fn fill_from<F: Encoding>(
+    to: Charset,
+    text: &[u8],
+    out: &mut Text,
+) -> Result<Option<usize>, NoMemory>
+    requires { out.old ≡ [] }
+    ensures spells { OnOk result
+        (Spells to (map (stand_in F.set to) (chars F.set text.now)) out.new) }
+    ensures lost { IfOk result (λ lost. IsLostPlace F.set to text.now lost) }
+    ensures within { IfOk result (λ lost. IfSome lost (λ place. place < length text.now)) }
 {
-    match put_char(to, QUESTION_MARK, out) {
-        Ok(()) => Ok(()),
-        Err(_) => Err(NoMemory),
+    match to {
+        Charset::Latin1 => convert_each::<F, Latin1>(text, out),
+        Charset::Ascii => convert_each::<F, Ascii>(text, out),
+        Charset::Utf8mb3 => convert_each::<F, Utf8mb3>(text, out),
+        Charset::Utf8mb4 => convert_each::<F, Utf8mb4>(text, out),
+        Charset::Ucs2 => convert_each::<F, Ucs2>(text, out),
+        Charset::Utf16 => convert_each::<F, Utf16>(text, out),
+        Charset::Utf32 => convert_each::<F, Utf32>(text, out),
+        Charset::Binary => convert_each::<F, Binary>(text, out),
     }
+}
+
+/// How many bytes the converted text has at most, or about as many where that isn't known.
+fn room(from: Charset, to: Charset, len: usize) -> usize {
+    (len / unit(from)).saturating_mul(unit(to).max(unit(from)))
 }
 
 /// Whether the set is binary.

@@ -1,11 +1,10 @@
-ghost use Rattle.mc_charset.specs.Chars.{chars, IsWellFormed};
-ghost use Rattle.mc_convert.specs.Conversion.{AllFit, IsFirstUnfit, IsFirstLost, IsLossless, fits};
+ghost use Rattle.mc_charset.specs.Chars.{IsWellFormed};
 ghost use Rattle.mc_convert.specs.Exact.{IsExactly};
-ghost use Rattle.std.specs.Prelude.{◌≡◌, ◌<◌, ◌^◌, MatchOption, length};
+ghost use Rattle.std.specs.Prelude.{◌<◌, ◌^◌, length};
 
-use crate::conversion::{convert, is_binary, keeps_bytes};
+use crate::conversion::{Converted, convert_once};
 use mc_base::{NoMemory, Text};
-use mc_charset::{CharAt, Charset, has_char, next_char};
+use mc_charset::Charset;
 use std::alloc::Global;
 
 /// Why a text was not converted.
@@ -29,56 +28,16 @@ pub fn convert_exact(
     requires below_4_gib { length text.now < 2 ^ 32 }
     ensures { IsExactly from to text.now result }
 {
-    if let Some(place) = first_lost(from, to, text) {
-        return Err(ConvertFault::Lossy { place });
-    }
-    match convert(alloc, from, to, text) {
-        Ok(converted) => Ok(converted),
+    match convert_once(alloc, from, to, text) {
+        Ok(
+            Converted {
+                lost: Some(place),
+                ..
+            },
+        ) => Err(ConvertFault::Lossy {
+            place: place as u32,
+        }),
+        Ok(Converted { text, lost: None }) => Ok(text),
         Err(NoMemory) => Err(ConvertFault::NoMemory),
     }
-}
-
-/// The place of the first lost character.
-fn first_lost(from: Charset, to: Charset, text: &[u8]) -> Option<u32>
-    requires well_formed { IsWellFormed from text.now }
-    requires below_4_gib { length text.now < 2 ^ 32 }
-    ensures { MatchOption result (IsLossless from to text.now)
-        (λ place. IsFirstLost from to text.now place) }
-{
-    if is_binary(to) {
-        return None;
-    }
-    if keeps_bytes(from, to, text) {
-        return None;
-    }
-    first_unfit(from, to, text)
-}
-
-/// The place of the first character that the set lacks.
-fn first_unfit(from: Charset, to: Charset, text: &[u8]) -> Option<u32>
-    requires { length text.now < 2 ^ 32 }
-    ensures { MatchOption result (AllFit from to text.now)
-        (λ place. IsFirstUnfit from to text.now place) }
-{
-    let mut place = 0;
-    let mut rest = text;
-    loop {
-        match next_char(from, rest) {
-            CharAt::Char { code, len } => {
-                if !is_fit(from, to, code) {
-                    return Some(place);
-                }
-                place += 1;
-                rest = &rest[len..];
-            }
-            CharAt::End | CharAt::Bad => return None,
-        }
-    }
-}
-
-/// Whether the set has this character of a text in another set.
-fn is_fit(from: Charset, to: Charset, code: u32) -> bool
-    ensures { result ≡ fits from to code }
-{
-    (!is_binary(from) || code < 0x80) && has_char(to, code)
 }

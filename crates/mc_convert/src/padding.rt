@@ -1,8 +1,9 @@
-ghost use Rattle.mc_convert.specs.Conversion.{IsReinterpreted, unit_len};
-ghost use Rattle.std.specs.Prelude.{◌≡◌, ◌<◌, ◌-◌, ◌%◌, IfOk};
+ghost use Rattle.mc_charset.specs.Chars.{IsWellFormed};
+ghost use Rattle.mc_convert.specs.Conversion.{IsReinterpreted, IsTaken, taken_for, unit_len};
+ghost use Rattle.std.specs.Prelude.{◌≡◌, ◌<◌, ◌-◌, ◌%◌, ◌++◌, IfOk, IfSome};
 
 use mc_base::{NoMemory, Text};
-use mc_charset::{Charset, is_well_formed};
+use mc_charset::{Charset, chars_law, is_well_formed};
 use std::alloc::Global;
 
 const ZEROS: [u8; 3] = [0, 0, 0];
@@ -11,9 +12,49 @@ const ZEROS: [u8; 3] = [0, 0, 0];
 /// and of 4 for utf32.
 /// `None` exactly where these are malformed. MySQL 8.0 manual, 12.10.
 pub fn reinterpret(alloc: Global, to: Charset, bytes: &[u8]) -> Result<Option<Text>, NoMemory>
+    ensures takes { IfOk result (λ answer. IsReinterpreted to bytes.now answer) }
+    ensures is { IfOk result (λ answer. answer ≡ taken_for to bytes.now) }
+    ensures well_formed { IfOk result (λ answer. IfSome answer (IsWellFormed to)) }
+{
+    chars_law();
+    taken(alloc, to, bytes)
+}
+
+/// The padded bytes, if they are a text of the set.
+fn taken(alloc: Global, to: Charset, bytes: &[u8]) -> Result<Option<Text>, NoMemory>
     ensures { IfOk result (λ answer. IsReinterpreted to bytes.now answer) }
 {
-    let mut text = Text::from_slice(alloc, &ZEROS[..missing(unit(to), bytes.len())])?;
+    let zeros = missing(unit(to), bytes.len());
+    if zeros == 0 {
+        taken_whole(alloc, to, bytes)
+    } else {
+        taken_behind(alloc, to, &ZEROS[..zeros], bytes)
+    }
+}
+
+/// The bytes, if they are a text of the set.
+fn taken_whole(alloc: Global, to: Charset, bytes: &[u8]) -> Result<Option<Text>, NoMemory>
+    ensures { IfOk result (λ answer. IsTaken to bytes.now answer) }
+{
+    if is_well_formed(to, bytes) {
+        Ok(Some(Text::from_slice(alloc, bytes)?))
+    } else {
+        Ok(None)
+    }
+}
+
+/// The bytes behind these zeros, if they are a text of the set.
+fn taken_behind(
+    alloc: Global,
+    to: Charset,
+    zeros: &[u8],
+    bytes: &[u8],
+) -> Result<Option<Text>, NoMemory>
+    ensures { IfOk result (λ answer. IsTaken to (zeros.now ++ bytes.now) answer) }
+{
+    let mut text = Text::new(alloc);
+    text.reserve(zeros.len().saturating_add(bytes.len()))?;
+    text.extend_from_slice(zeros)?;
     text.extend_from_slice(bytes)?;
     if is_well_formed(to, text.as_slice()) {
         Ok(Some(text))
@@ -33,7 +74,7 @@ fn missing(unit: usize, len: usize) -> usize
 }
 
 /// How many bytes the shortest spellings of a set have.
-fn unit(set: Charset) -> usize
+pub(crate) fn unit(set: Charset) -> usize
     ensures is { result ≡ unit_len set }
     ensures positive { 0 < result }
     ensures small { result < 5 }

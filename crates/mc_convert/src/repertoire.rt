@@ -4,7 +4,10 @@ ghost use Rattle.mc_convert.specs.declared.repertoire.Repertoire.{Repertoire};
 ghost use Rattle.std.specs.Prelude.{◌≡◌, ◌≤◌, ◌↔◌, IsTrue, max};
 
 use crate::plain::is_plain;
-use mc_charset::{CharAt, Charset, has_char, next_char};
+use mc_charset::{
+    Ascii, Binary, CharAt, Charset, Encoding, Latin1, Ucs2, Utf8mb3, Utf8mb4, Utf16, Utf32,
+    has_char, next_in,
+};
 
 /// A class of characters. The classes form a chain in this order.
 #[derive(Clone, Copy, Debug, PartialEq, Eq)]
@@ -72,19 +75,28 @@ pub fn repertoire_of(set: Charset, text: &[u8]) -> Repertoire
     if is_plain(set, text) {
         return Repertoire::Ascii;
     }
-    class_of_each(set, text)
+    match set {
+        Charset::Latin1 => class_of_each::<Latin1>(text),
+        Charset::Ascii => class_of_each::<Ascii>(text),
+        Charset::Utf8mb3 => class_of_each::<Utf8mb3>(text),
+        Charset::Utf8mb4 => class_of_each::<Utf8mb4>(text),
+        Charset::Ucs2 => class_of_each::<Ucs2>(text),
+        Charset::Utf16 => class_of_each::<Utf16>(text),
+        Charset::Utf32 => class_of_each::<Utf32>(text),
+        Charset::Binary => class_of_each::<Binary>(text),
+    }
 }
 
 /// Goes over one character after the other.
-fn class_of_each(set: Charset, text: &[u8]) -> Repertoire
-    ensures { IsRepertoire set text.now result }
+fn class_of_each<E: Encoding>(text: &[u8]) -> Repertoire
+    ensures { IsRepertoire E.set text.now result }
 {
     let mut class = Repertoire::Ascii;
     let mut rest = text;
     loop {
-        match next_char(set, rest) {
+        match next_in::<E>(rest) {
             CharAt::Char { code, len } => {
-                class = class.or_above(class_in(set, code));
+                class = with_char(E::charset(), class, code);
                 rest = &rest[len..];
             }
             CharAt::End | CharAt::Bad => return class,
@@ -92,17 +104,32 @@ fn class_of_each(set: Charset, text: &[u8]) -> Repertoire
     }
 }
 
-/// The least class that has this character of a text in the set.
-fn class_in(set: Charset, code: u32) -> Repertoire
-    ensures { (class : Repertoire) → HasIn set class code ↔ (rank result ≤ rank class) }
+/// The least class that has all of another class and this character of a text in the set.
+#[inline(always)]
+fn with_char(set: Charset, class: Repertoire, code: u32) -> Repertoire
+    ensures { (other : Repertoire) → (rank result ≤ rank other)
+        ↔ ((rank class ≤ rank other) × HasIn set other code) }
 {
     if code < 0x80 {
-        return Repertoire::Ascii;
+        return class;
     }
     match set {
         Charset::Binary => Repertoire::Bytes,
-        _ => class_above_7f(code),
+        _ => with_high_char(class, code),
     }
+}
+
+/// The least class that has all of another class and this character above U+007F.
+#[inline(always)]
+fn with_high_char(class: Repertoire, code: u32) -> Repertoire
+    requires { 0x80 ≤ code }
+    ensures { (other : Repertoire) → (rank result ≤ rank other)
+        ↔ ((rank class ≤ rank other) × Has other code) }
+{
+    if code < 0x10000 && Repertoire::Bmp.is_at_most(class) {
+        return class;
+    }
+    class.or_above(class_above_7f(code))
 }
 
 /// The least class that has this character above U+007F.
@@ -110,11 +137,11 @@ fn class_above_7f(code: u32) -> Repertoire
     requires { 0x80 ≤ code }
     ensures { (class : Repertoire) → Has class code ↔ (rank result ≤ rank class) }
 {
-    if has_char(Charset::Latin1, code) {
-        Repertoire::Latin1
-    } else if code < 0x10000 {
-        Repertoire::Bmp
-    } else {
+    if code >= 0x10000 {
         Repertoire::Unicode
+    } else if has_char(Charset::Latin1, code) {
+        Repertoire::Latin1
+    } else {
+        Repertoire::Bmp
     }
 }

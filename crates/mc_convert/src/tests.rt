@@ -1,6 +1,6 @@
 use super::*;
 use mc_base::Text;
-use mc_charset::{Charset, PutChar, char_count, char_start, is_well_formed, put_char};
+use mc_charset::{Charset, is_well_formed};
 use std::alloc::Global;
 
 /// The sets in the order of the columns below.
@@ -298,44 +298,6 @@ fn pads_on_the_left(rt: HostRuntime) {
         assert!(rt;
             matches!(&answer, Ok(text) if text.as_ref().map(|t| t.as_slice()) == *want),
             "{why}"
-        );
-    }
-}
-
-/// How many characters a short well-formed text has, and where character `k` begins.
-fn count_and_start(set: Charset, text: &[u8], k: u32) -> Option<(u32, usize)> {
-    if text.len() > 100 || !is_well_formed(set, text) {
-        return None;
-    }
-    Some((char_count(set, text), char_start(set, text, k)))
-}
-
-#[test]
-fn counts_and_refuses_characters(rt: HostRuntime) {
-    let text = b"a\xC3\xA9\xE2\x82\xAC\xF0\x9F\x98\x80".as_slice();
-    assert_eq!(rt;
-        count_and_start(Charset::Utf8mb4, text, 2),
-        Some((4, 3)),
-        "utf8mb4"
-    );
-    assert_eq!(rt;
-        count_and_start(Charset::Utf8mb4, text, 9),
-        Some((4, 10)),
-        "past the end"
-    );
-    assert_eq!(rt;
-        count_and_start(Charset::Utf32, b"\x00\x00\x00a\x00\x00\x00b", 1),
-        Some((2, 4)),
-        "utf32"
-    );
-    let missing = [
-        0x100, 0x80, 0x10000, 0xD800, 0x10000, 0xDFFF, 0x110000, 0x100,
-    ];
-    for (set, code) in SETS.iter().zip(missing.iter()) {
-        let mut out = Text::new(rt.alloc());
-        assert!(rt;
-            put_char(*set, *code, &mut out) == Err(PutChar::Unfit),
-            "{code}"
         );
     }
 }

@@ -168,7 +168,7 @@ drop_past [] u j = ap (λ k. drop k u) (none_plus j)
 drop_past (x ∷ t) u j = ap (λ k. drop k (x ∷ (t ++ u))) (suc_plus (length t) j) ∙ drop_past t u j
 
 -- A text of characters: the first one's spelling, and that of the rest.
-abbrev IsSplit : Charset → ℕ → List ℕ → List ℕ → Type 0
+abbrev pub IsSplit : Charset → ℕ → List ℕ → List ℕ → Type 0
 IsSplit set code codes text =
     (t : List ℕ) × (u : List ℕ) × (spell set code ≡ Some t) × Spells set codes u × (text ≡ t ++ u)
 
@@ -179,7 +179,7 @@ split_options None rest text h = absurd cc
 split_options (Some f) None text h = absurd cc
 split_options (Some f) (Some r) text h = (f, r, refl, refl, cc)
 
-split : (set : Charset) (code : ℕ) (codes text : List ℕ) → Spells set (code ∷ codes) text →
+pub split : (set : Charset) (code : ℕ) (codes text : List ℕ) → Spells set (code ∷ codes) text →
     IsSplit set code codes text
 unfolding spell_all
 split set code codes text h = split_options (spell set code) (spell_all set codes) text h
@@ -193,7 +193,7 @@ Spells-none : (set : Charset) → Spells set [] []
 unfolding spell_all
 Spells-none set = refl
 
-nothing_spelled : (set : Charset) (text : List ℕ) → Spells set [] text → text ≡ []
+pub nothing_spelled : (set : Charset) (text : List ℕ) → Spells set [] text → text ≡ []
 unfolding spell_all
 nothing_spelled set text h = cc
 

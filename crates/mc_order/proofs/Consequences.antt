@@ -1,48 +1,104 @@
 -- What follows from the laws of a collation.
-use Rattle.std.proofs.Common.{◌≡◌, ◌⊎◌, ℕ, zero, suc, ◌≤◌, List, [], ◌∷◌, ◌++◌, append_assoc, append-nil, length, inl, inr, take, refl, sym, ap, ◌∙◌, ⊎_elim, arith}
-use Rattle.std.specs.List.{All, Contains, flat_map}
-use Rattle.std.proofs.lemmas.List.Elements.{All-head, All-tail, All-weaker, All-contains}
-use Rattle.mc_order.specs.Meaning.{Meaning, joined_levels, IsCharOf, AreCharsOf, IsSafe}
-use Rattle.mc_order.specs.Laws.{IsWeight, IsLawful}
-use Rattle.mc_order.specs.Consequences.{SameFirstLists, IsSameChar, SafeFrontStands, CutWithoutContractions, FloorStands, HeadsAreChars, EmptyHasNoWeights}
-use Rattle.mc_order.specs.Characters.{AreCharsOf-parts, AreCharsOf-one}
+use Rattle.std.proofs.Common.{◌≡◌, ℕ, zero, suc, ◌≤◌, Bool, true, false, cond, List, [], ◌∷◌, ◌++◌, append_assoc, length, take, drop, refl, sym, ap, ◌∙◌, subst, arith}
+use Rattle.std.specs.List.{All}
+use Rattle.std.proofs.lemmas.Bool.Decides.{nat_tests}
+use Rattle.std.proofs.lemmas.List.{take-append-drop}
+use Rattle.std.proofs.lemmas.List.Elements.{All-cons, All-head, All-tail, All-append, All-weaker, All-contains}
+use Rattle.mc_charset.specs.declared.charset.Charset.{Charset}
+use Rattle.mc_charset.specs.declared.charset.Charset.TheVariants.{Latin1, Ascii, Utf8mb3, Utf8mb4, Ucs2, Utf16, Utf32, Binary}
+use Rattle.mc_charset.specs.Chars.{spell, chars}
+use Rattle.mc_order.specs.declared.pad.Pad.{Pad}
+use Rattle.mc_order.specs.Ascending.{IsAscending-unique}
+use Rattle.mc_order.specs.Characters.{AreCharsOf-parts, AreCharsOf-one, AreCharsOf-join, AreCharsOf-split}
+use Rattle.mc_order.specs.Consequences.{before_separator, FirstListBegins, FlatListsAreBounded, SpaceIsWeight, IsSameChar, SafeFrontStands, TailsAreComputed, FloorIsComputed, HeadsAreChars, EmptyHasNoWeights, CharsAreCut, CharsAreJoined}
+use Rattle.mc_order.specs.Floor.{weighs}
+use Rattle.mc_order.specs.FloorLaw.{weighs_decides}
+use Rattle.mc_order.specs.Laws.{greatest_weight, IsWeight, KeepsSpace, IsLawful}
+use Rattle.mc_order.specs.Meaning.{Meaning, joined_levels, flat_list, IsCharOf, AreCharsOf, IsSafe}
+use Rattle.mc_order.specs.Tails.{tails_of}
+use Rattle.mc_order.specs.TailsLaw.{tails_of-ascends, tails_of-each, tails_of-none}
 
 abbrev IsPositive : ℕ → Type 0
 IsPositive n = 1 ≤ n
 
--- Before the first separator two lists of weights are the same.
-before_separator : (a b x y : List ℕ) → All IsPositive a → All IsPositive b →
-    a ++ 0 ∷ x ≡ b ++ 0 ∷ y → a ≡ b
-before_separator [] [] x y pa pb e = refl
-before_separator [] (w ∷ b) x y pa pb e = let p = All-head IsPositive w b pb in let z : 0 ≡ w =
-    cc in absurd (omega arith)
-before_separator (v ∷ a) [] x y pa pb e = let p = All-head IsPositive v a pa in let z : v ≡ 0 =
-    cc in absurd (omega arith)
-before_separator (v ∷ a) (w ∷ b) x y pa pb e =
-    let h : v ≡ w = cc in let t : a ++ 0 ∷ x ≡ b ++ 0 ∷ y = cc in
-    let r = before_separator a b x y (All-tail IsPositive v a pa)
-    (All-tail IsPositive w b pb) t in cc
+positive_first : (w : ℕ) (ws : List ℕ) → 1 ≤ w →
+    before_separator (w ∷ ws) ≡ w ∷ before_separator ws
+positive_first w ws some = grind (arith, nat_tests)
 
-first_of_joined : (levels : ℕ) (p q : ℕ → List ℕ) → 1 ≤ levels → All IsPositive (p 1) →
-    All IsPositive (q 1) → joined_levels levels p ≡ joined_levels levels q → p 1 ≡ q 1
-first_of_joined zero p q some pp pq e = e
-first_of_joined (suc zero) p q some pp pq e = e
-first_of_joined (suc (suc zero)) p q some pp pq e = before_separator (p 1) (q 1) (p 2) (q 2) pp pq e
-first_of_joined (suc (suc (suc more))) p q some pp pq e =
-    before_separator (p 1) (q 1) (p 2 ++ 0 ∷ p 3) (q 2 ++ 0 ∷ q 3) pp pq (sym (append_assoc (p 1)
-    (0 ∷ p 2) (0 ∷ p 3)) ∙ e ∙ append_assoc (q 1) (0 ∷ q 2) (0 ∷ q 3))
+-- Weights alone have no separator before their end.
+before_nothing : (a : List ℕ) → All IsPositive a → before_separator a ≡ a
+before_nothing [] p = refl
+before_nothing (w ∷ a) p =
+    positive_first w a (All-head IsPositive w a p)
+    ∙ ap (λ t. w ∷ t) (before_nothing a (All-tail IsPositive w a p))
 
-positive_weights : (m : Meaning) → IsLawful m → (codes : List ℕ) → AreCharsOf m.charset codes →
-    All IsPositive (m.level_list 1 codes)
-positive_weights m laws codes chars =
-    All-weaker (IsWeight m) IsPositive (λ w h. h.0) (m.level_list 1 codes) (laws.bounds 1 codes
-    (omega arith) laws.settings.some_level chars)
+before_more : (a x : List ℕ) → All IsPositive a → before_separator (a ++ 0 ∷ x) ≡ a
+before_more [] x p = refl
+before_more (w ∷ a) x p =
+    positive_first w (a ++ 0 ∷ x) (All-head IsPositive w a p)
+    ∙ ap (λ t. w ∷ t) (before_more a x (All-tail IsPositive w a p))
 
-pub same_first_lists : (m : Meaning) → IsLawful m → SameFirstLists m
+first_of_joined : (levels : ℕ) (list : ℕ → List ℕ) → All IsPositive (list 1) →
+    before_separator (joined_levels levels list) ≡ list 1
+first_of_joined zero list p = before_nothing (list 1) p
+first_of_joined (suc zero) list p = before_nothing (list 1) p
+first_of_joined (suc (suc zero)) list p = before_more (list 1) (list 2) p
+first_of_joined (suc (suc (suc more))) list p =
+    ap before_separator (append_assoc (list 1) (0 ∷ list 2) (0 ∷ list 3))
+    ∙ before_more (list 1) (list 2 ++ 0 ∷ list 3) p
+
+pub first_list_begins : (m : Meaning) → IsLawful m → FirstListBegins m
+first_list_begins m laws codes chars =
+    first_of_joined m.levels (λ level. m.level_list level codes)
+    (All-weaker (IsWeight m) IsPositive (λ w h. h.0) (m.level_list 1 codes)
+    (laws.bounds 1 codes (omega arith) laws.settings.some_level chars))
+
+same_first_lists : (m : Meaning) → IsLawful m → (a b : List ℕ) → AreCharsOf m.charset a →
+    AreCharsOf m.charset b → flat_list m a ≡ flat_list m b → m.level_list 1 a ≡ m.level_list 1 b
 same_first_lists m laws a b ca cb e =
-    first_of_joined m.levels (λ level. m.level_list level a)
-    (λ level. m.level_list level b) laws.settings.some_level (positive_weights m laws a ca)
-    (positive_weights m laws b cb) e
+    sym (first_list_begins m laws a ca) ∙ ap before_separator e ∙ first_list_begins m laws b cb
+
+abbrev IsBounded : ℕ → Type 0
+IsBounded number = number ≤ greatest_weight
+
+joined_bounded : (levels : ℕ) (list : ℕ → List ℕ) →
+    ((level : ℕ) → 1 ≤ level → level ≤ levels → All IsBounded (list level)) → 1 ≤ levels →
+    All IsBounded (joined_levels levels list)
+joined_bounded zero list h some = absurd (omega arith)
+joined_bounded (suc zero) list h some = h 1 (omega arith) (omega arith)
+joined_bounded (suc (suc zero)) list h some =
+    All-append IsBounded (list 1) (0 ∷ list 2) (h 1 (omega arith) (omega arith))
+    (All-cons IsBounded 0 (list 2) (omega arith) (h 2 (omega arith) (omega arith)))
+joined_bounded (suc (suc (suc more))) list h some =
+    All-append IsBounded (list 1 ++ 0 ∷ list 2) (0 ∷ list 3)
+    (All-append IsBounded (list 1) (0 ∷ list 2) (h 1 (omega arith) (omega arith))
+    (All-cons IsBounded 0 (list 2) (omega arith) (h 2 (omega arith) (omega arith))))
+    (All-cons IsBounded 0 (list 3) (omega arith) (h 3 (omega arith) (omega arith)))
+
+pub flat_lists_are_bounded : (m : Meaning) → IsLawful m → FlatListsAreBounded m
+flat_lists_are_bounded m laws codes chars =
+    joined_bounded m.levels (λ level. m.level_list level codes)
+    (λ level some within. All-weaker (IsWeight m) IsBounded (λ w h. h.1) (m.level_list level codes)
+    (laws.bounds level codes some within chars)) laws.settings.some_level
+
+space_spelled : (set : Charset) → IsCharOf set 0x20
+unfolding spell
+space_spelled Latin1 = (_, refl)
+space_spelled Ascii = (_, refl)
+space_spelled Utf8mb3 = (_, refl)
+space_spelled Utf8mb4 = (_, refl)
+space_spelled Ucs2 = (_, refl)
+space_spelled Utf16 = (_, refl)
+space_spelled Utf32 = (_, refl)
+space_spelled Binary = (_, refl)
+
+pub space_is_weight : (m : Meaning) → IsLawful m → SpaceIsWeight m
+space_is_weight m laws padded =
+    let one : m.level_list 1 (0x20 ∷ []) ≡ m.space ∷ [] =
+    subst (λ (pad : Pad). KeepsSpace pad m) padded laws.settings.space_weight in
+    let each = laws.bounds 1 (0x20 ∷ []) (omega arith) laws.settings.some_level
+    (AreCharsOf-one m.charset 0x20 (space_spelled m.charset)) in
+    let h = All-head (IsWeight m) m.space [] (subst (All (IsWeight m)) one each) in (h.0, h.1)
 
 -- A character like a safe one stands for itself.
 like_safe : (m : Meaning) → IsLawful m → (literal code : ℕ) (rest : List ℕ) →
@@ -58,46 +114,48 @@ like_safe m laws literal code rest cl cc' safe same =
     (λ head. safe code head same) ∙ ap (λ w. w ++ m.level_list 1 rest) (sym lists)
 
 pub safe_front_stands : (m : Meaning) → IsLawful m → SafeFrontStands m
-safe_front_stands m laws [] [] rest cl cc' safe same = refl
+safe_front_stands m laws [] [] rest cl cc' safe same =
+    ap (λ none. none ++ m.level_list 1 rest)
+    (sym (laws.empty 1 (omega arith) laws.settings.some_level))
 safe_front_stands m laws [] (c ∷ cs) rest cl cc' safe same = absurd same
 safe_front_stands m laws (l ∷ ls) [] rest cl cc' safe same = absurd same
 safe_front_stands m laws (l ∷ ls) (c ∷ cs) rest cl cc' safe same =
     let literals = AreCharsOf-parts m.charset l ls cl in
     let codes = AreCharsOf-parts m.charset c (cs ++ rest) cc' in
-    let first = like_safe m laws l c (cs ++ rest) literals.0 cc' (All-head
-    (IsSafe m) l ls safe) same.0 in
-    let more = safe_front_stands m laws ls cs rest literals.1 codes.1 (All-tail
-    (IsSafe m) l ls safe) same.1 in
-    first ∙ ap (λ w. m.level_list 1 (l ∷ []) ++ w) more ∙ sym (append_assoc (m.level_list 1
-    (l ∷ [])) (flat_map (λ literal. m.level_list 1 (literal ∷ [])) ls) (m.level_list 1 rest))
+    let is_safe = All-head (IsSafe m) l ls safe in
+    let first = like_safe m laws l c (cs ++ rest) literals.0 cc' is_safe same.0 in
+    let itself = like_safe m laws l l ls literals.0 cl is_safe refl in
+    let more = safe_front_stands m laws ls cs rest literals.1 codes.1
+    (All-tail (IsSafe m) l ls safe) same.1 in
+    first
+    ∙ ap (λ w. m.level_list 1 (l ∷ []) ++ w) more
+    ∙ sym (append_assoc (m.level_list 1 (l ∷ [])) (m.level_list 1 ls) (m.level_list 1 rest))
+    ∙ ap (λ w. w ++ m.level_list 1 rest) (sym itself)
 
-no_member : {X : Type 0} (xs : List X) (x : X) → xs ≡ [] → Contains xs x → ⊥
-no_member xs x e h = let l : length xs ≡ 0 = ap length e in let k = h.1 in omega arith
+pub tails_are_computed : (m : Meaning) → IsLawful m → TailsAreComputed m
+tails_are_computed m laws =
+    IsAscending-unique m.tails (tails_of (m.level_list 1) m.contractions) laws.tails_of.ordered
+    (tails_of-ascends (m.level_list 1) m.contractions)
+    (λ weights. (
+      λ h. (tails_of-each m weights).1 ((laws.tails_of.each weights).0 h),
+      λ h. (laws.tails_of.each weights).1 ((tails_of-each m weights).0 h),
+    ))
 
-no_tail : (m : Meaning) → IsLawful m → m.contractions ≡ [] → (tail : List ℕ) →
-    (tail ≡ []) ⊎ Contains m.tails tail → tail ≡ []
-no_tail m laws none tail h = ⊎_elim (λ e. e) (λ h. let is =
-    (laws.tails_of.each tail).0 h in absurd (no_member m.contractions (is.1 ++ is.2) none is.5)) h
+floor_by : (m : Meaning) → IsLawful m → (k : ℕ) (all : Bool) →
+    weighs m.charset (m.level_list 1) m.contractions ≡ all → m.floor k ≡ cond all k 0
+floor_by m laws k true e = (laws.floor_of k).0 ((weighs_decides m).0 e)
+floor_by m laws k false e =
+    (laws.floor_of k).1 (λ h. let t : true ≡ false = sym ((weighs_decides m).1 h) ∙ e in cc)
 
-kept_alone : (list kept tail : List ℕ) → list ≡ kept ++ tail → tail ≡ [] → list ≡ kept
-kept_alone list kept tail e none = e ∙ ap (λ t. kept ++ t) none ∙ append-nil kept
+none_beside : (m : Meaning) → IsLawful m → m.contractions ≡ [] → m.tails ≡ []
+none_beside m laws none =
+    tails_are_computed m laws ∙ ap (tails_of (m.level_list 1)) none ∙ tails_of-none (m.level_list 1)
 
-pub cut_without_contractions : (m : Meaning) → IsLawful m → CutWithoutContractions m
-cut_without_contractions m laws none k codes chars =
-    let cut = laws.cut k codes chars in
-    let whole = kept_alone (m.level_list 1 (take k codes)) cut.0 cut.1 cut.3
-    (no_tail m laws none cut.1 cut.5) in
-    (cut.2, cut.4 ∙ ap (λ kept. kept ++ cut.2) (sym whole))
-
-pub floor_stands : (m : Meaning) → IsLawful m → FloorStands m
-floor_stands m laws weights k codes chars =
-    let cut = laws.cut k codes chars in
-    let whole = kept_alone (m.level_list 1 (take k codes)) cut.0 cut.1 cut.3
-    (no_tail m laws weights.0 cut.1 cut.5) in
-    let floor_is = (laws.floor_of k).0 weights in
-    ⊎_elim (λ enough. inl (let l =
-    ap length whole in omega arith)) (λ none. inr (whole ∙ sym (kept_alone
-    (m.level_list 1 codes) cut.0 cut.2 cut.4 none))) cut.6
+pub floor_is_computed : (m : Meaning) → IsLawful m → FloorIsComputed m
+floor_is_computed m laws k = (
+  floor_by m laws k (weighs m.charset (m.level_list 1) m.contractions) refl,
+  λ some. (laws.floor_of k).1 (λ h. some (none_beside m laws h.0)),
+)
 
 pub heads_are_chars : (m : Meaning) → IsLawful m → HeadsAreChars m
 heads_are_chars m laws code head =
@@ -122,3 +180,12 @@ empty_joined (suc (suc (suc more))) list none some =
 pub empty_has_no_weights : (m : Meaning) → IsLawful m → EmptyHasNoWeights m
 empty_has_no_weights m laws =
     empty_joined m.levels (λ level. m.level_list level []) laws.empty laws.settings.some_level
+
+pub chars_are_cut : (set : Charset) → CharsAreCut set
+chars_are_cut set k codes h =
+    AreCharsOf-split set (take k codes) (drop k codes)
+    (subst (AreCharsOf set) (sym (take-append-drop k codes)) h)
+
+pub chars_are_joined : (set : Charset) → CharsAreJoined set
+chars_are_joined set codes more =
+    (AreCharsOf-split set codes more, λ h. AreCharsOf-join set codes more h.0 h.1)

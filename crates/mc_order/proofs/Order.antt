@@ -1,5 +1,5 @@
 -- The order of two lists is the one of `IsOrder`, and a total order.
-use Rattle.std.proofs.Common.{◌≡◌, ℕ, zero, suc, ◌+◌, ◌-◌, ◌<◌, ◌≤◌, min, List, [], ◌∷◌, take, take_all, drop, length, length-drop, get_or, refl, sym, ap, ◌∙◌, subst, ⊎_elim, arith}
+use Rattle.std.proofs.Common.{◌≡◌, ℕ, zero, suc, ◌+◌, ◌-◌, ◌<◌, ◌≤◌, min, List, [], ◌∷◌, ◌++◌, take, take_all, drop, length, length-drop, get_or, refl, sym, ap, ◌∙◌, subst, ⊎_elim, arith}
 use Rattle.std.specs.declared.cmp.Ordering.{Ordering}
 use Rattle.std.specs.declared.cmp.Ordering.TheVariants.{Less, Equal, Greater}
 use Rattle.std.specs.Ordering.{nat_cmp, ordering_then, ordering_reverse, MatchOrdering}
@@ -11,6 +11,7 @@ use Rattle.std.proofs.lemmas.Bool.Decides.{nat_tests}
 use Rattle.std.proofs.lemmas.List.{at_drop_more, at_drop_all}
 use Rattle.mc_order.specs.declared.pad.Pad.{Pad}
 use Rattle.mc_order.specs.declared.pad.Pad.TheVariants.{PadSpace, NoPad}
+use Rattle.mc_order.proofs.Steps.{list_order-same}
 use Rattle.mc_order.specs.Order.{prolonged, AgreeBefore, Compares, IsOrder, order_to_end, list_order}
 
 agree_everywhere : (p q : ℕ → ℕ) → p 0 ≡ q 0 → ((i : ℕ) → p (suc i) ≡ q (suc i)) → (i : ℕ) →
@@ -234,3 +235,12 @@ list_order-total pad space = record {
       (prolonged pad space x) (prolonged pad space y) (prolonged pad space z)
       (list_order pad space y z) (order_known pad space x y Equal e) (list_order-is pad space y z));
 }
+
+-- Without padding no list is above what begins with it.
+pub list_order-prolonged : (space : ℕ) (list more : List ℕ) →
+    list_order NoPad space list (list ++ more) ≡ Greater → ⊥
+unfolding list_order order_to_end
+list_order-prolonged space [] [] h = cc
+list_order-prolonged space [] (y ∷ ys) h = cc
+list_order-prolonged space (x ∷ xs) more h =
+    list_order-prolonged space xs more (sym (list_order-same NoPad space x x xs (xs ++ more) refl) ∙ h)

@@ -82,16 +82,15 @@ bin_bounds set pad (c ∷ cs) chars =
 bin_cut : (set : Charset) (pad : Pad) (k : ℕ) (codes : List ℕ) →
     IsCut (bin_meaning (set, pad)) k codes
 bin_cut set pad k codes =
-    let f : ℕ → ℕ = λ code. bin_number set code + 1 in (
-      map f (take k codes),
-      [],
-      map f (drop k codes),
-      sym (append-nil (map f
-          (take k codes))),
-      map-split f k codes,
-      inl refl,
-      enough f k codes,
-    )
+    let f : ℕ → ℕ = λ code. bin_number set code + 1 in record {
+      kept = map f (take k codes);
+      tail = [];
+      rest = map f (drop k codes);
+      front = sym (append-nil (map f (take k codes)));
+      whole = map-split f k codes;
+      none_or_tail = inl refl;
+      enough = enough f k codes;
+    }
 
 bin_weights : (set : Charset) (pad : Pad) → HasWeightPerChar (bin_meaning (set, pad))
 bin_weights set pad = (refl, λ code c e. cc)

@@ -34,3 +34,19 @@ AreCharsOf-none set = ([], refl)
 
 pub AreCharsOf-one : (set : Charset) (code : ℕ) → IsCharOf set code → AreCharsOf set (code ∷ [])
 AreCharsOf-one set code c = AreCharsOf-cons set code [] c (AreCharsOf-none set)
+
+-- Characters of the set, joined and split.
+pub AreCharsOf-join : (set : Charset) (codes more : List ℕ) → AreCharsOf set codes →
+    AreCharsOf set more → AreCharsOf set (codes ++ more)
+AreCharsOf-join set [] more h k = k
+AreCharsOf-join set (c ∷ cs) more h k =
+    let parts = AreCharsOf-parts set c cs h in
+    AreCharsOf-cons set c (cs ++ more) parts.0 (AreCharsOf-join set cs more parts.1 k)
+
+pub AreCharsOf-split : (set : Charset) (codes more : List ℕ) → AreCharsOf set (codes ++ more) →
+    AreCharsOf set codes × AreCharsOf set more
+AreCharsOf-split set [] more h = (AreCharsOf-none set, h)
+AreCharsOf-split set (c ∷ cs) more h =
+    let parts = AreCharsOf-parts set c (cs ++ more) h in
+    let rest = AreCharsOf-split set cs more parts.1 in
+    (AreCharsOf-cons set c cs parts.0 rest.0, rest.1)

@@ -22,9 +22,13 @@ pub record KeepsSettings (m : Meaning) : Type 0 where
   pub one_added : m.added ≤ 1
   pub space_weight : KeepsSpace m.pad m
 
--- A weight is at least 1 and at most 1114112, and less `added` it fits the weights' bytes.
+-- The greatest weight: the code point 10FFFF plus 1.
+abbrev pub greatest_weight : ℕ
+greatest_weight = 1114112
+
+-- A weight is from 1 to the greatest one, and less `added` it fits the weights' bytes.
 abbrev pub IsWeight : Meaning → ℕ → Type 0
-IsWeight m weight = (1 ≤ weight) × (weight ≤ 1114112) × (m.added ≤ weight) ×
+IsWeight m weight = (1 ≤ weight) × (weight ≤ greatest_weight) × (m.added ≤ weight) ×
     (weight - m.added < 256 ^ m.weight_width)
 
 -- Each list of each weight level has weights alone.
@@ -42,11 +46,17 @@ abbrev pub KeepsContractions : Meaning → Type 0
 KeepsContractions m = All (λ codes. (2 ≤ length codes) × AreCharsOf m.charset codes) m.contractions
 
 -- The first list of the first k characters: a prefix of the text's first list, and behind it nothing or a tail.
-abbrev pub IsCut : Meaning → ℕ → List ℕ → Type 0
-IsCut m k codes =
-    (kept : List ℕ) × (tail : List ℕ) × (rest : List ℕ) × (m.level_list 1
-    (take k codes) ≡ kept ++ tail) × (m.level_list 1 codes ≡ kept ++ rest) ×
-    ((tail ≡ []) ⊎ Contains m.tails tail) × ((m.floor k ≤ length kept) ⊎ (rest ≡ []))
+pub record IsCut (m : Meaning) (k : ℕ) (codes : List ℕ) : Type 0 where
+  -- what both lists begin with
+  pub kept : List ℕ
+  -- what the first k characters add to it
+  pub tail : List ℕ
+  -- what the text goes on with
+  pub rest : List ℕ
+  pub front : m.level_list 1 (take k codes) ≡ kept ++ tail
+  pub whole : m.level_list 1 codes ≡ kept ++ rest
+  pub none_or_tail : (tail ≡ []) ⊎ Contains m.tails tail
+  pub enough : (m.floor k ≤ length kept) ⊎ (rest ≡ [])
 
 -- Cut law: the first k characters keep at least `floor k` of the text's first weights, or all of them, and add at most a tail.
 abbrev pub KeepsCut : Meaning → Type 0
@@ -69,11 +79,16 @@ abbrev pub KeepsFloor : Meaning → Type 0
 KeepsFloor m = (k : ℕ) → (HasWeightPerChar m → m.floor k ≡ k) × ((HasWeightPerChar m → ⊥) →
     m.floor k ≡ 0)
 
+-- Lists in lexicographic order, each once.
+abbrev pub IsAscending : List (List ℕ) → Type 0
+IsAscending lists =
+    (i j : ℕ) → i < j → j < length lists →
+    list_order NoPad 0 (slice_index_or lists i []) (slice_index_or lists j []) ≡ Less
+
 -- The tails are the first lists of the proper prefixes of contractions, each once, in lexicographic order.
 pub record KeepsTails (m : Meaning) : Type 0 where
   pub each : (weights : List ℕ) → Contains m.tails weights ↔ IsTail m weights
-  pub ordered : (i j : ℕ) → i < j → j < length m.tails →
-      list_order NoPad 0 (slice_index_or m.tails i []) (slice_index_or m.tails j []) ≡ Less
+  pub ordered : IsAscending m.tails
 
 -- All the laws together.
 pub record IsLawful (m : Meaning) : Type 0 where

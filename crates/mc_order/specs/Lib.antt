@@ -1,10 +1,17 @@
 pub mod Order
 pub mod Meaning
 pub mod Laws
+pub mod Tails
+pub mod Floor
 pub mod Consequences
 pub mod Characters
+pub mod Ascending
+pub mod TailsLaw
+pub mod FloorLaw
 pub mod WithoutContractions
 pub mod Bin
 pub mod Spelling
 pub mod BinLaws
 pub mod Boundary
+pub mod Toy
+pub mod ToyLaws

@@ -26,12 +26,16 @@ pub record Meaning : Type 0 where
   -- how many weights the first k characters keep at least
   pub floor : ℕ → ℕ
 
--- The lists of the weight levels, one behind the other, a separator 0 between two.
+-- What stands between the lists of two weight levels: no weight.
+abbrev pub separator : ℕ
+separator = 0
+
+-- The lists of the weight levels, one behind the other, a separator between two.
 abbrev pub joined_levels : ℕ → (ℕ → List ℕ) → List ℕ
 joined_levels zero list = list 1
 joined_levels (suc zero) list = list 1
-joined_levels (suc (suc zero)) list = list 1 ++ 0 ∷ list 2
-joined_levels (suc (suc (suc more))) list = list 1 ++ 0 ∷ list 2 ++ 0 ∷ list 3
+joined_levels (suc (suc zero)) list = list 1 ++ separator ∷ list 2
+joined_levels (suc (suc (suc more))) list = list 1 ++ separator ∷ list 2 ++ separator ∷ list 3
 
 -- The flat list of characters: what is compared.
 abbrev pub flat_list : Meaning → List ℕ → List ℕ
@@ -59,7 +63,11 @@ abbrev pub IsSafe : Meaning → ℕ → Type 0
 IsSafe m code = (head : ℕ) → IsHead m head → flat_list m (code ∷ []) ≢ flat_list m (head ∷ [])
 
 -- The weights are the first list of a proper prefix of a contraction, and there are some.
-abbrev pub IsTail : Meaning → List ℕ → Type 0
-IsTail m weights =
-    (weights ≢ []) × (front : List ℕ) × (rest : List ℕ) × (front ≢ []) ×
-    (rest ≢ []) × Contains m.contractions (front ++ rest) × (m.level_list 1 front ≡ weights)
+pub record IsTail (m : Meaning) (weights : List ℕ) : Type 0 where
+  pub front : List ℕ
+  pub rest : List ℕ
+  pub some_weights : weights ≢ []
+  pub some_front : front ≢ []
+  pub some_rest : rest ≢ []
+  pub joined : Contains m.contractions (front ++ rest)
+  pub first_list : m.level_list 1 front ≡ weights

@@ -1,21 +1,15 @@
 -- What a collation keeps that has no contractions, and lists of one weight a character.
-use Rattle.std.proofs.Common.{◌≡◌, ◌⊎◌, ℕ, zero, suc, ◌≤◌, List, [], ◌∷◌, ◌++◌, map, length, take, drop, refl, ap, inl, inr, arith}
-use Rattle.std.specs.List.{Contains}
+use Rattle.std.proofs.Common.{◌≡◌, ◌⊎◌, ℕ, zero, suc, ◌≤◌, List, [], ◌∷◌, ◌++◌, map, length, take, drop, refl, sym, ap, ◌∙◌, inl, inr, arith}
 use Rattle.mc_order.specs.Meaning.{Meaning}
 use Rattle.mc_order.specs.Laws.{KeepsTails}
-
-no_member : {X : Type 0} (xs : List X) (x : X) → xs ≡ [] → Contains xs x → ⊥
-no_member xs x e h = let l : length xs ≡ 0 = ap length e in let k = h.1 in omega arith
+use Rattle.mc_order.specs.Tails.{tails_of}
+use Rattle.mc_order.specs.TailsLaw.{tails_of-none, KeepsTails-from}
 
 -- Without contractions there are no tails.
 pub without_tails : (m : Meaning) → m.contractions ≡ [] → m.tails ≡ [] → KeepsTails m
-without_tails m contractions tails = record {
-  each = λ weights. (
-    (λ h. absurd (no_member m.tails weights tails h)),
-    λ h. absurd (no_member m.contractions (h.1 ++ h.2) contractions h.5),
-  );
-  ordered = λ i j less below. let none : length m.tails ≡ 0 = ap length tails in absurd (omega arith);
-}
+without_tails m contractions tails =
+    KeepsTails-from m (tails ∙ sym (tails_of-none (m.level_list 1)) ∙ ap
+    (tails_of (m.level_list 1)) (sym contractions))
 
 -- The weights of the first characters, and those of the rest.
 pub map-split : (f : ℕ → ℕ) (k : ℕ) (xs : List ℕ) →

@@ -1,5 +1,9 @@
 ghost use Rattle.mc_charset.specs.Chars.{chars, IsWellFormed};
-ghost use Rattle.mc_order.specs.Consequences.{SameFirstLists, SafeFrontStands, CutWithoutContractions, FloorStands, HeadsAreChars, EmptyHasNoWeights};
+ghost use Rattle.mc_charset.specs.declared.charset.Charset.{Charset as Set};
+ghost use Rattle.mc_order.specs.Consequences.{FirstListBegins, FlatListsAreBounded, SpaceIsWeight};
+ghost use Rattle.mc_order.specs.Consequences.{SafeFrontStands, TailsAreComputed, FloorIsComputed};
+ghost use Rattle.mc_order.specs.Consequences.{HeadsAreChars, EmptyHasNoWeights};
+ghost use Rattle.mc_order.specs.Consequences.{CharsAreCut, CharsAreJoined, TextsAreChars};
 ghost use Rattle.mc_order.specs.Laws.{IsLawful};
 ghost use Rattle.mc_order.specs.Meaning.{Meaning, flat_list, first_chars, IsCharOf, IsSafe};
 ghost use Rattle.mc_order.specs.Order.{list_order};
@@ -7,7 +11,7 @@ ghost use Rattle.std.specs.Prelude.{◌≡◌, ◌++◌, ◌∷◌, ◌↔◌, [
 
 use crate::Pad;
 use mc_base::{NoMemory, Weights};
-use mc_charset::Charset;
+use mc_charset::{Charset, chars_law};
 use std::cmp::Ordering;
 
 /// A collation: how the texts of a character set compare. What one means is a `Meaning`, and each
@@ -88,10 +92,21 @@ pub trait Collation {
 /// The laws of a collation, and what follows from them, for code that is generic in it.
 pub fn collation_laws<C: Collation>(collation: &C)
     ensures lawful { IsLawful (C.meaning collation.now) }
-    ensures same_first { SameFirstLists (C.meaning collation.now) }
+    ensures first_list { FirstListBegins (C.meaning collation.now) }
+    ensures bounded { FlatListsAreBounded (C.meaning collation.now) }
+    ensures space { SpaceIsWeight (C.meaning collation.now) }
     ensures safe_front { SafeFrontStands (C.meaning collation.now) }
-    ensures cut_short { CutWithoutContractions (C.meaning collation.now) }
-    ensures floor_stands { FloorStands (C.meaning collation.now) }
+    ensures tails { TailsAreComputed (C.meaning collation.now) }
+    ensures floor { FloorIsComputed (C.meaning collation.now) }
     ensures heads { HeadsAreChars (C.meaning collation.now) }
     ensures empty { EmptyHasNoWeights (C.meaning collation.now) }
 {}
+
+/// What lists of characters of a set are: lists cut and joined, and the characters of a text.
+pub fn characters_laws()
+    ensures cut { (set : Set) → CharsAreCut set }
+    ensures joined { (set : Set) → CharsAreJoined set }
+    ensures of_text { (set : Set) → TextsAreChars set }
+{
+    chars_law();
+}

@@ -22,11 +22,15 @@ mod shared;
 mod stream;
 #[cfg(test)]
 mod tests;
+#[cfg(test)]
+mod toy;
+#[cfg(test)]
+mod toy_weights;
 
 pub use bin::BinCollation;
 pub use book::Book;
 pub use char_weights::{CharWeight, compare_chars, put_chars};
-pub use collation::{Collation, collation_laws};
+pub use collation::{Collation, characters_laws, collation_laws};
 pub use lists::{compare_lists, order_laws};
 pub use pad::Pad;
 pub use stream::{WeightStream, compare_streams, put_first_weights, put_weights};

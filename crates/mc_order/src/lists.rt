@@ -1,7 +1,11 @@
+ghost use Rattle.mc_order.specs.Laws.{IsAscending};
 ghost use Rattle.mc_order.specs.Order.{IsOrder, order_to_end, list_order};
 ghost use Rattle.mc_order.specs.declared.pad.Pad.{Pad as Padding};
+ghost use Rattle.mc_order.specs.declared.pad.Pad.TheVariants.{NoPad};
 ghost use Rattle.std.specs.Cmp.{IsTotalOrder};
-ghost use Rattle.std.specs.Prelude.{◌≡◌, ◌⊎◌, ℕ, List, length};
+ghost use Rattle.std.specs.List.{Contains};
+ghost use Rattle.std.specs.Prelude.{◌≡◌, ◌≢◌, ◌⊎◌, ◌↔◌, ℕ, List, ◌++◌, length};
+ghost use Rattle.std.specs.declared.cmp.Ordering.TheVariants.{Equal, Greater};
 
 use crate::Pad;
 use std::cmp::Ordering;
@@ -58,9 +62,17 @@ fn order_to_spaces(list: &[u32], space: u32) -> Ordering
 }
 
 /// What `list_order` is: the one order of two lists that are prolonged without end, and so a total
-/// order.
+/// order. What two lists begin with decides nothing. Without padding only one list is equal to
+/// itself, and none is above what begins with it; and ascending lists of one set of members are one.
 pub fn order_laws()
     ensures described { (pad : Padding) (space : ℕ) (a b : List ℕ) → IsOrder pad space a b (list_order pad space a b) }
     ensures unique { (pad : Padding) (space : ℕ) (a b : List ℕ) (order : _) → IsOrder pad space a b order → list_order pad space a b ≡ order }
     ensures total { (pad : Padding) (space : ℕ) → IsTotalOrder (list_order pad space) }
+    ensures front { (pad : Padding) (space : ℕ) (front a b : List ℕ) →
+        list_order pad space (front ++ a) (front ++ b) ≡ list_order pad space a b }
+    ensures same { (space : ℕ) (a b : List ℕ) → list_order NoPad space a b ≡ Equal → a ≡ b }
+    ensures prolonged { (space : ℕ) (list more : List ℕ) →
+        list_order NoPad space list (list ++ more) ≢ Greater }
+    ensures members { (lists others : List (List ℕ)) → IsAscending lists → IsAscending others →
+        ((list : List ℕ) → Contains lists list ↔ Contains others list) → lists ≡ others }
 {}

@@ -1,4 +1,5 @@
-use crate::{BinCollation, Collation, Pad, compare_lists};
+use crate::toy::Toy;
+use crate::{BinCollation, Collation, Pad, characters_laws, collation_laws, compare_lists};
 use mc_base::Weights;
 use mc_charset::{CollId, is_well_formed};
 use std::cmp::Ordering;
@@ -89,4 +90,74 @@ fn a_list_is_put(rt: HostRuntime) {
     }
     assert!(rt; out.as_slice() == [0xE9 + 1].as_slice());
     assert!(rt; compare_lists(out.as_slice(), &[0x61], Pad::NoPad, 0) == Ordering::Greater);
+}
+
+/// Two texts of the small kind, and their order.
+#[derive(Drop)]
+struct ToyRow {
+    why: &'static str,
+    a: &'static [u8],
+    b: &'static [u8],
+    order: Ordering,
+}
+
+const TOY_ROWS: [ToyRow; 5] = [
+    ToyRow {
+        why: "dzs is a letter behind d",
+        a: b"dzs",
+        b: b"dzz",
+        order: Ordering::Greater,
+    },
+    ToyRow {
+        why: "- has no weights",
+        a: b"a-b",
+        b: b"AB",
+        order: Ordering::Equal,
+    },
+    ToyRow {
+        why: "but it stands between the letters of a contraction",
+        a: b"dz-s",
+        b: b"dzs",
+        order: Ordering::Less,
+    },
+    ToyRow {
+        why: "& is et",
+        a: b"&c",
+        b: b"etc",
+        order: Ordering::Equal,
+    },
+    ToyRow {
+        why: "an accent counts behind all letters",
+        a: b"\xE1b",
+        b: b"ac",
+        order: Ordering::Less,
+    },
+];
+
+#[test]
+fn small_kind_compares(rt: HostRuntime) {
+    for row in &TOY_ROWS {
+        let order = generic_order(&Toy, row.a, row.b);
+        assert!(rt; order == Some(row.order), "{}", row.why);
+    }
+}
+
+/// The order of two texts under any collation, where they are well formed.
+fn generic_order<C: Collation>(collation: &C, a: &[u8], b: &[u8]) -> Option<Ordering> {
+    collation_laws(collation);
+    characters_laws();
+    if !is_well_formed(collation.charset(), a) || !is_well_formed(collation.charset(), b) {
+        return None;
+    }
+    Some(collation.compare(a, b))
+}
+
+#[test]
+fn small_kind_has_tails(rt: HostRuntime) {
+    let mut out = Weights::new(rt.alloc());
+    if is_well_formed(Toy.charset(), b"dzs") {
+        assert!(rt; Toy.put_list(b"dzs", Some(2), &mut out).is_ok());
+    }
+    assert!(rt; out.as_slice() == [0x45, 0x5B, 0, 1, 1].as_slice());
+    assert!(rt; Toy.tail(Toy.tail_count() - 1) == [0x45, 0x5B].as_slice());
 }

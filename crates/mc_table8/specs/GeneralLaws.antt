@@ -35,15 +35,15 @@ bounds set table (c ∷ cs) =
 cut : (set : Charset) (table : CodeTable) (k : ℕ) (codes : List ℕ) →
     IsCut (general_meaning set table) k codes
 cut set table k codes =
-    let f : ℕ → ℕ = λ code. code_weight table.weights code + 1 in (
-      map f (take k codes),
-      [],
-      map f (drop k codes),
-      sym (append-nil (map f (take k codes))),
-      map-split f k codes,
-      inl refl,
-      enough f k codes,
-    )
+    let f : ℕ → ℕ = λ code. code_weight table.weights code + 1 in record {
+      kept = map f (take k codes);
+      tail = [];
+      rest = map f (drop k codes);
+      front = sym (append-nil (map f (take k codes)));
+      whole = map-split f k codes;
+      none_or_tail = inl refl;
+      enough = enough f k codes;
+    }
 
 per_char : (set : Charset) (table : CodeTable) → HasWeightPerChar (general_meaning set table)
 per_char set table = (refl, λ code c e. cc)

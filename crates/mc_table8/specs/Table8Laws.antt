@@ -113,15 +113,15 @@ enough set entries (suc k) (c ∷ cs) =
 cut : (set : Charset) (table : ByteTable) (k : ℕ) (codes : List ℕ) →
     IsCut (table8_meaning set table) k codes
 cut set table k codes =
-    let f : ℕ → List ℕ = char_weights set table.entries in (
-      flat_map f (take k codes),
-      [],
-      flat_map f (drop k codes),
-      sym (append-nil (flat_map f (take k codes))),
-      split f k codes,
-      inl refl,
-      enough set table.entries k codes,
-    )
+    let f : ℕ → List ℕ = char_weights set table.entries in record {
+      kept = flat_map f (take k codes);
+      tail = [];
+      rest = flat_map f (drop k codes);
+      front = sym (append-nil (flat_map f (take k codes)));
+      whole = split f k codes;
+      none_or_tail = inl refl;
+      enough = enough set table.entries k codes;
+    }
 
 per_char : (set : Charset) (table : ByteTable) → HasWeightPerChar (table8_meaning set table)
 per_char set table = (

@@ -1,5 +1,6 @@
 use Rattle.std.proofs.Common.{sym, ◌∙◌}
-use Rattle.mc_charset.proofs.Chars.{chars_spelled, well_formed_spelled, same_code, nothing_more, Spells_join}
+use Rattle.mc_charset.proofs.Chars.{chars_spelled, well_formed_spelled, same_code, nothing_more, Spells_join, chars_front}
+use Rattle.mc_charset.proofs.CodePoints.{is_spelled_tells, spelled_code_point, chars_code_points}
 use Rattle.mc_charset.proofs.laws.chars_law.Goals as goal
 
 pub returns : goal.returns
@@ -9,4 +10,8 @@ returns c = record {
   encodes = well_formed_spelled;
   no_prefix = λ set code other front more h k. (same_code set code other front more h k, nothing_more set code other front more h k);
   joins = Spells_join;
+  fronts = chars_front;
+  tells = is_spelled_tells;
+  code_point = spelled_code_point;
+  all_code_points = chars_code_points;
 }

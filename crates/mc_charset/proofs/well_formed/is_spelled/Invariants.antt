@@ -3,7 +3,7 @@ use Rattle.mc_charset.specs.Chars.{IsWellFormed}
 use Rattle.mc_charset.proofs.well_formed.is_spelled.Given as goal
 
 abbrev pub invariant-loop-len : goal.invariant-loop-len
-invariant-loop-len l = IsWellFormed l.set l.text ↔ IsWellFormed l.set l.rest
+invariant-loop-len g l = IsWellFormed g.E.Encoding.set l.text ↔ IsWellFormed g.E.Encoding.set l.rest
 
 abbrev pub decreases-loop-len : goal.decreases-loop-len
-decreases-loop-len l = length l.rest
+decreases-loop-len g l = length l.rest

@@ -1,6 +1,9 @@
 use Rattle.std.proofs.Common.{sym, ◌∙◌}
-use Rattle.mc_convert.proofs.Classes.{latin1_classes}
+use Rattle.mc_convert.proofs.Classes.{high_classes, latin1_classes}
 use Rattle.mc_convert.proofs.repertoire.class_above_7f.Goals as goal
+
+pub returns-then-code-ge65536 : goal.returns-then-code-ge65536
+returns-then-code-ge65536 c = λ class. high_classes class c.args.code c.if-code-ge65536.true
 
 pub returns-then-has_char : goal.returns-then-has_char
 returns-then-has_char c =

@@ -6,9 +6,9 @@ use Rattle.mc_convert.proofs.repertoire.class_of_each.Given as goal
 
 -- A class has the whole text exactly where it has what was passed and what is left.
 abbrev pub invariant-loop-code : goal.invariant-loop-code
-invariant-loop-code l =
-    (other : Repertoire) → HasAll l.set other (chars l.set l.text)
-    ↔ ((rank l.class ≤ rank other) × HasAll l.set other (chars l.set l.rest))
+invariant-loop-code g l =
+    (other : Repertoire) → HasAll g.E.Encoding.set other (chars g.E.Encoding.set l.text)
+    ↔ ((rank l.class ≤ rank other) × HasAll g.E.Encoding.set other (chars g.E.Encoding.set l.rest))
 
 abbrev pub decreases-loop-code : goal.decreases-loop-code
-decreases-loop-code l = length l.rest
+decreases-loop-code g l = length l.rest

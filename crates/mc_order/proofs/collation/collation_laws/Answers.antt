@@ -1,4 +1,4 @@
-use Rattle.mc_order.proofs.Consequences.{same_first_lists, safe_front_stands, cut_without_contractions, floor_stands, heads_are_chars, empty_has_no_weights}
+use Rattle.mc_order.proofs.Consequences.{first_list_begins, flat_lists_are_bounded, space_is_weight, safe_front_stands, tails_are_computed, floor_is_computed, heads_are_chars, empty_has_no_weights}
 use Rattle.mc_order.proofs.collation.collation_laws.Goals as goal
 
 pub returns : goal.returns
@@ -7,10 +7,12 @@ returns g c =
     let laws = g.met.C.Collation.lawful c.args.collation.now in
     record {
       lawful = laws;
-      same_first = same_first_lists m laws;
+      first_list = first_list_begins m laws;
+      bounded = flat_lists_are_bounded m laws;
+      space = space_is_weight m laws;
       safe_front = safe_front_stands m laws;
-      cut_short = cut_without_contractions m laws;
-      floor_stands = floor_stands m laws;
+      tails = tails_are_computed m laws;
+      floor = floor_is_computed m laws;
       heads = heads_are_chars m laws;
       empty = empty_has_no_weights m laws;
     }

@@ -1,0 +1,6 @@
+use Rattle.std.proofs.Common.{◌∙◌}
+use Rattle.mc_charset.proofs.Firsts.{count_utf8}
+use Rattle.mc_charset.proofs.count.count_varied.Goals as goal
+
+pub returns-in-Utf8mb3 : goal.returns-in-Utf8mb3
+returns-in-Utf8mb3 c = c.count_firsts.ensures ∙ count_utf8 c.args.set c.args.text.now c.in-Utf8mb3.is c.requires.well_formed

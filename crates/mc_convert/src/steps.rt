@@ -1,0 +1,181 @@
+ghost use Rattle.mc_charset.specs.Chars.{spell, chars, Spells};
+ghost use Rattle.mc_convert.specs.Conversion.{fits, stand_in};
+ghost use Rattle.mc_convert.specs.Plain.{IsPlain};
+ghost use Rattle.mc_convert.specs.Steps.{IsLostPlace, Takes};
+ghost use Rattle.std.specs.Option.{option_map, option_or};
+ghost use Rattle.std.specs.Prelude.{
+  ◌≡◌,
+  ◌++◌,
+  ◌<◌,
+  ◌≤◌,
+  [],
+  if◌then◌else◌,
+  length,
+  map,
+  take,
+  IfOk,
+  IfSome,
+  OnOk,
+  OnErr,
+};
+
+use crate::conversion::is_binary;
+use crate::plain::are_plain;
+use mc_base::{NoMemory, Text};
+use mc_charset::{CharAt, Encoding, PutChar, chars_law, next_in, put_in};
+
+const QUESTION_MARK: u32 = 0x3F;
+
+/// How many bytes of ASCII are taken at once.
+const FRONT_LEN: usize = 8;
+
+/// What one step of a conversion took from the front of a text.
+#[derive(Clone, Copy)]
+pub(crate) enum Taken {
+    /// So many characters in so many bytes, and whether the new set has them.
+    Front { count: usize, len: usize, fit: bool },
+    /// Nothing, since no character is left.
+    Nothing,
+}
+
+/// Appends each character of the text in the other set, or `?` where that set lacks it. The place
+/// of the first one that it lacks, in characters from 0.
+pub(crate) fn convert_each<F: Encoding, T: Encoding>(
+    text: &[u8],
+    out: &mut Text,
+) -> Result<Option<usize>, NoMemory>
+    requires { out.old ≡ [] }
+    ensures spells { OnOk result
+        (Spells T.set (map (stand_in F.set T.set) (chars F.set text.now)) out.new) }
+    ensures lost { IfOk result (λ lost. IsLostPlace F.set T.set text.now lost) }
+    ensures within { IfOk result (λ lost. IfSome lost (λ place. place < length text.now)) }
+{
+    chars_law();
+    let mut place = 0;
+    let mut lost = None;
+    let mut rest = text;
+    loop {
+        match take_front::<F, T>(rest, out) {
+            Ok(Taken::Front { count, len, fit }) => {
+                lost = first_lost(lost, place, fit);
+                place += count;
+                rest = &rest[len..];
+            }
+            Ok(Taken::Nothing) => return Ok(lost),
+            Err(NoMemory) => return Err(NoMemory),
+        }
+    }
+}
+
+/// The place that was lost before, or else this one, if it isn't fit.
+#[inline(always)]
+fn first_lost(lost: Option<usize>, place: usize, fit: bool) -> Option<usize>
+    ensures { result ≡ option_or lost (if fit then None else Some place) }
+{
+    if fit || lost.is_some() {
+        lost
+    } else {
+        Some(place)
+    }
+}
+
+/// Takes some bytes of ASCII at once, or else a single character.
+#[inline(always)]
+fn take_front<F: Encoding, T: Encoding>(text: &[u8], out: &mut Text) -> Result<Taken, NoMemory>
+    ensures { Takes F.set T.set text.now out.old out.new result }
+{
+    match plain_front::<F, T>(text) {
+        Some(front) => take_plain::<F, T>(text, front, out),
+        None => take_char::<F, T>(text, out),
+    }
+}
+
+/// The first bytes, where they are ASCII and both sets spell these characters so.
+#[inline(always)]
+fn plain_front<F: Encoding, T: Encoding>(text: &[u8]) -> Option<&[u8; 8]>
+    ensures { IfSome result (λ front. (front.now ≡ take 8 text.now) × (8 ≤ length text.now)
+        × IsPlain F.set front.now × IsPlain T.set front.now) }
+{
+    let Some((front, _)) = text.split_first_chunk::<FRONT_LEN>() else {
+        return None;
+    };
+    if are_plain(F::charset(), T::charset(), front) {
+        Some(front)
+    } else {
+        None
+    }
+}
+
+/// Appends these bytes, which stand at the front of the text.
+#[inline(always)]
+fn take_plain<F: Encoding, T: Encoding>(
+    text: &[u8],
+    front: &[u8; 8],
+    out: &mut Text,
+) -> Result<Taken, NoMemory>
+    requires front { front.now ≡ take 8 text.now }
+    requires within { 8 ≤ length text.now }
+    requires from { IsPlain F.set front.now }
+    requires to { IsPlain T.set front.now }
+    ensures { Takes F.set T.set text.now out.old out.new result }
+{
+    chars_law();
+    match out.extend_from_slice(front) {
+        Ok(()) => Ok(Taken::Front {
+            count: FRONT_LEN,
+            len: FRONT_LEN,
+            fit: true,
+        }),
+        Err(NoMemory) => Err(NoMemory),
+    }
+}
+
+/// Appends the first character.
+#[inline(always)]
+fn take_char<F: Encoding, T: Encoding>(text: &[u8], out: &mut Text) -> Result<Taken, NoMemory>
+    ensures { Takes F.set T.set text.now out.old out.new result }
+{
+    match next_in::<F>(text) {
+        CharAt::Char { code, len } => match put_stand_in::<F, T>(code, out) {
+            Ok(fit) => Ok(Taken::Front { count: 1, len, fit }),
+            Err(NoMemory) => Err(NoMemory),
+        },
+        CharAt::End | CharAt::Bad => Ok(Taken::Nothing),
+    }
+}
+
+/// Appends the character itself where the set has it, else `?`; whether the set has it.
+#[inline(always)]
+fn put_stand_in<F: Encoding, T: Encoding>(code: u32, out: &mut Text) -> Result<bool, NoMemory>
+    ensures fit { IfOk result (λ fit. fit ≡ fits F.set T.set code) }
+    ensures ok { OnOk result
+        (option_map (λ front. out.old ++ front) (spell T.set (stand_in F.set T.set code))
+        ≡ Some out.new) }
+    ensures err { OnErr result (out.new ≡ out.old) }
+{
+    if is_binary(F::charset()) && code >= 0x80 {
+        put_question_mark::<T>(out)?;
+        return Ok(false);
+    }
+    match put_in::<T>(code, out) {
+        Ok(()) => Ok(true),
+        Err(PutChar::Unfit) => {
+            put_question_mark::<T>(out)?;
+            Ok(false)
+        }
+        Err(PutChar::NoMemory) => Err(NoMemory),
+    }
+}
+
+/// Appends `?`, which each set has.
+#[inline(always)]
+fn put_question_mark<T: Encoding>(out: &mut Text) -> Result<(), NoMemory>
+    ensures ok { OnOk result
+        (option_map (λ front. out.old ++ front) (spell T.set 0x3F) ≡ Some out.new) }
+    ensures err { OnErr result (out.new ≡ out.old) }
+{
+    match put_in::<T>(QUESTION_MARK, out) {
+        Ok(()) => Ok(()),
+        Err(_) => Err(NoMemory),
+    }
+}
