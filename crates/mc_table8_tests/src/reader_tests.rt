@@ -1,4 +1,4 @@
-use crate::{TableFault, read_general, read_table8};
+use mc_table8::{TableFault, read_general, read_table8};
 use std::alloc::Global;
 
 /// A fault that a file has.

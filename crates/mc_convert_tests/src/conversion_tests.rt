@@ -1,6 +1,8 @@
-use super::*;
 use mc_base::Text;
 use mc_charset::{Charset, is_well_formed};
+use mc_convert::{
+    ConvertFault, Repertoire, cap, convert, convert_exact, reinterpret, repertoire_of,
+};
 use std::alloc::Global;
 
 /// The sets in the order of the columns below.

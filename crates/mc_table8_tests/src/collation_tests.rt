@@ -1,7 +1,7 @@
-use crate::{General, GeneralCollation, Table8, Table8Collation};
 use mc_base::{List, Weights};
 use mc_charset::{Charset, is_well_formed};
 use mc_order::Collation;
+use mc_table8::{General, GeneralCollation, Table8, Table8Collation};
 use std::alloc::Global;
 use std::cmp::Ordering;
 
