@@ -1,12 +1,11 @@
-use mc_base::{List, Weights};
+use mc_base::Weights;
 use mc_charset::{Charset, is_well_formed};
 use mc_order::Collation;
-use mc_table8::{General, GeneralCollation, Table8, Table8Collation};
+use mc_table8::{GeneralCollation, Table8Collation, read_general, read_table8};
 use std::alloc::Global;
 use std::cmp::Ordering;
 
 /// Two texts of a set, and their order.
-#[derive(Drop)]
 struct Row {
     why: &'static str,
     charset: Charset,
@@ -16,44 +15,23 @@ struct Row {
 }
 
 /// Letters without case, and in latin1 ä as ae, ß as ss.
-fn byte_entry(byte: u8) -> (u8, Option<u8>) {
-    match byte {
-        b'a'..=b'z' => (byte - 0x20, None),
-        0xC4 | 0xE4 => (0x41, Some(0x45)),
-        0xDF => (0x53, Some(0x53)),
-        _ => (byte, None),
-    }
-}
+const BYTES: &[u8] = b"default =\n61..7A @ 41\nC4 41 45\nDF 53 53\nE4 41 45";
 
 /// Letters without case, ß as s.
-fn code_weight(code: u16) -> u16 {
-    match code {
-        0x61..=0x7A => code - 0x20,
-        0xDF => 0x53,
-        _ => code,
-    }
-}
+const CODES: &[u8] = b"0061..007A @ 0041\n00DF 0053";
 
 fn byte_collation(alloc: Global) -> Option<Table8Collation> {
-    let mut entries = List::new(alloc);
-    for byte in 0..=255 {
-        entries.push(byte_entry(byte)).ok()?;
+    match read_table8(alloc, BYTES) {
+        Ok(table) => Some(Table8Collation::new(Charset::Latin1, table)),
+        Err(_) => None,
     }
-    if entries.len() != 256 || entries.as_slice()[0x20].1.is_some() {
-        return None;
-    }
-    Some(Table8Collation::new(Charset::Latin1, Table8::new(entries)))
 }
 
 fn code_collation(alloc: Global) -> Option<GeneralCollation> {
-    let mut weights = List::new(alloc);
-    for code in 0..=0xFFFF {
-        weights.push(code_weight(code)).ok()?;
+    match read_general(alloc, CODES) {
+        Ok(table) => Some(GeneralCollation::new(Charset::Utf8mb4, table)),
+        Err(_) => None,
     }
-    if weights.len() != 0x10000 {
-        return None;
-    }
-    Some(GeneralCollation::new(Charset::Utf8mb4, General::new(weights)))
 }
 
 /// The order of two texts, where they are well formed.
@@ -65,83 +43,85 @@ fn order_of<C: Collation>(collation: &C, a: &[u8], b: &[u8]) -> Option<Ordering>
     }
 }
 
+/// Texts of both collations.
+const ROWS: [Row; 10] = [
+    Row {
+        why: "ä is ae",
+        charset: Charset::Latin1,
+        a: b"K\xE4se",
+        b: b"KAESE",
+        order: Ordering::Equal,
+    },
+    Row {
+        why: "the second weight of ä is that of e",
+        charset: Charset::Latin1,
+        a: b"\xE4",
+        b: b"ad",
+        order: Ordering::Greater,
+    },
+    Row {
+        why: "ß is ss",
+        charset: Charset::Latin1,
+        a: b"stra\xDFe",
+        b: b"strasse",
+        order: Ordering::Equal,
+    },
+    Row {
+        why: "ß isn't s",
+        charset: Charset::Latin1,
+        a: b"\xDF",
+        b: b"s",
+        order: Ordering::Greater,
+    },
+    Row {
+        why: "trailing spaces count for nothing",
+        charset: Charset::Latin1,
+        a: b"a  ",
+        b: b"a",
+        order: Ordering::Equal,
+    },
+    Row {
+        why: "TAB is below the space that prolongs",
+        charset: Charset::Latin1,
+        a: b"a\t",
+        b: b"a",
+        order: Ordering::Less,
+    },
+    Row {
+        why: "ß is s",
+        charset: Charset::Utf8mb4,
+        a: b"\xC3\x9F",
+        b: b"S",
+        order: Ordering::Equal,
+    },
+    Row {
+        why: "U+1F600 has the weight of U+FFFD",
+        charset: Charset::Utf8mb4,
+        a: b"\xF0\x9F\x98\x80",
+        b: b"\xEF\xBF\xBD",
+        order: Ordering::Equal,
+    },
+    Row {
+        why: "one byte in front is shared, the character isn't",
+        charset: Charset::Utf8mb4,
+        a: b"\xC3\x9F",
+        b: b"\xC3\x9E",
+        order: Ordering::Less,
+    },
+    Row {
+        why: "TAB is below the space that prolongs",
+        charset: Charset::Utf8mb4,
+        a: b"a\t",
+        b: b"a ",
+        order: Ordering::Less,
+    },
+];
+
 #[test]
 fn texts_compare(rt: HostRuntime) {
-    let rows = [
-        Row {
-            why: "ä is ae",
-            charset: Charset::Latin1,
-            a: b"K\xE4se",
-            b: b"KAESE",
-            order: Ordering::Equal,
-        },
-        Row {
-            why: "the second weight of ä is that of e",
-            charset: Charset::Latin1,
-            a: b"\xE4",
-            b: b"ad",
-            order: Ordering::Greater,
-        },
-        Row {
-            why: "ß is ss",
-            charset: Charset::Latin1,
-            a: b"stra\xDFe",
-            b: b"strasse",
-            order: Ordering::Equal,
-        },
-        Row {
-            why: "ß isn't s",
-            charset: Charset::Latin1,
-            a: b"\xDF",
-            b: b"s",
-            order: Ordering::Greater,
-        },
-        Row {
-            why: "trailing spaces count for nothing",
-            charset: Charset::Latin1,
-            a: b"a  ",
-            b: b"a",
-            order: Ordering::Equal,
-        },
-        Row {
-            why: "TAB is below the space that prolongs",
-            charset: Charset::Latin1,
-            a: b"a\t",
-            b: b"a",
-            order: Ordering::Less,
-        },
-        Row {
-            why: "ß is s",
-            charset: Charset::Utf8mb4,
-            a: b"\xC3\x9F",
-            b: b"S",
-            order: Ordering::Equal,
-        },
-        Row {
-            why: "U+1F600 has the weight of U+FFFD",
-            charset: Charset::Utf8mb4,
-            a: b"\xF0\x9F\x98\x80",
-            b: b"\xEF\xBF\xBD",
-            order: Ordering::Equal,
-        },
-        Row {
-            why: "one byte in front is shared, the character isn't",
-            charset: Charset::Utf8mb4,
-            a: b"\xC3\x9F",
-            b: b"\xC3\x9E",
-            order: Ordering::Less,
-        },
-        Row {
-            why: "TAB is below the space that prolongs",
-            charset: Charset::Utf8mb4,
-            a: b"a\t",
-            b: b"a ",
-            order: Ordering::Less,
-        },
-    ];
     let by_byte = byte_collation(rt.alloc());
     let by_code = code_collation(rt.alloc());
-    for row in &rows {
+    for row in &ROWS {
         let order = match (row.charset, &by_byte, &by_code) {
             (Charset::Latin1, Some(collation), _) => order_of(collation, row.a, row.b),
             (_, _, Some(collation)) => order_of(collation, row.a, row.b),
