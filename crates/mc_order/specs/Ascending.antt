@@ -1,8 +1,10 @@
 -- Ascending lists: `ascending` makes them, and their members decide them.
-use Rattle.std.proofs.Common.{◌≡◌, ◌⊎◌, ◌↔◌, ℕ, zero, suc, ◌<◌, List, [], ◌∷◌, length, get_or, refl, sym, ap, ◌∙◌, subst, inl, inr, ⊎_elim, arith}
+use Rattle.std.proofs.Common.{◌≡◌, ◌⊎◌, ◌↔◌, ℕ, zero, suc, ◌<◌, List, [], ◌∷◌, length, get_or, refl}
+use Rattle.std.proofs.Common.{sym, ap, ◌∙◌, subst, inl, inr, ⊎_elim, arith}
 use Rattle.std.specs.List.{Contains}
 use Rattle.std.specs.Cmp.Lexicographic.{slice_cmp}
-use Rattle.std.specs.Ordering.{match_ordering, ordering_reverse, ordering_then, nat_cmp, MatchOrdering}
+use Rattle.std.specs.Ordering.{match_ordering, ordering_reverse, ordering_then, nat_cmp}
+use Rattle.std.specs.Ordering.{MatchOrdering}
 use Rattle.std.proofs.lemmas.Cmp.{ranked, nat_list_cmp_total, tied_itself}
 use Rattle.std.specs.declared.cmp.Ordering.{Ordering}
 use Rattle.std.specs.declared.cmp.Ordering.TheVariants.{Less, Equal, Greater}
@@ -16,7 +18,8 @@ abbrev pub Among : {X : Type 0} → X → List X → Type 0
 Among x [] = ⊥
 Among x (y ∷ ys) = (x ≡ y) ⊎ Among x ys
 
-Among-at : {X : Type 0} (xs : List X) (x : X) (k : ℕ) → k < length xs → get_or xs k x ≡ x → Among x xs
+Among-at : {X : Type 0} (xs : List X) (x : X) (k : ℕ) → k < length xs → get_or xs k x ≡ x →
+    Among x xs
 Among-at [] x k below e = absurd (omega arith)
 Among-at (y ∷ ys) x zero below e = inl (sym e)
 Among-at (y ∷ ys) x (suc k) below e = inr (Among-at ys x k (omega arith) e)
@@ -175,7 +178,7 @@ Among_ascending (x ∷ xs) z = (
       (⊎_elim (λ e. inl e) (λ a. inr ((Among_ascending xs z).1 a)) h),
 )
 
--- Of two rising lists with the same members the first ones are the same, for each stands before all others.
+-- Of two rising lists with the same members the first ones are the same: each stands before all others.
 heads_same : (x y : List ℕ) (xs ys : List (List ℕ)) → Rises (x ∷ xs) → Rises (y ∷ ys) →
     Among x (y ∷ ys) → Among y (x ∷ xs) → x ≡ y
 heads_same x y xs ys rx ry (inl e) h = e

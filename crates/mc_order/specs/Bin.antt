@@ -1,7 +1,9 @@
--- The binary collations, in the order of their numbers: MySQL 8.0 manual, 10.8.5, "The binary Collation Compared to _bin Collations".
-use Rattle.std.specs.Prelude.{ℕ, ◌+◌, Bool, true, false, if◌then◌else◌, List, [], ◌∷◌, Option, Some, map}
+-- The binary collations: MySQL 8.0 manual, 10.8.5, "The binary Collation Compared to _bin Collations".
+use Rattle.std.specs.Prelude.{ℕ, ◌+◌, Bool, true, false, if◌then◌else◌, List, [], ◌∷◌, Option, Some}
+use Rattle.std.specs.Prelude.{map}
 use Rattle.mc_charset.specs.declared.charset.Charset.{Charset}
-use Rattle.mc_charset.specs.declared.charset.Charset.TheVariants.{Latin1, Ascii, Utf8mb3, Utf8mb4, Ucs2, Utf16, Utf32, Binary}
+use Rattle.mc_charset.specs.declared.charset.Charset.TheVariants.{Latin1, Ascii, Utf8mb3, Utf8mb4}
+use Rattle.mc_charset.specs.declared.charset.Charset.TheVariants.{Ucs2, Utf16, Utf32, Binary}
 use Rattle.mc_charset.specs.Chars.{spell}
 use Rattle.mc_order.specs.declared.pad.Pad.{Pad}
 use Rattle.mc_order.specs.declared.pad.Pad.TheVariants.{PadSpace, NoPad}
@@ -19,7 +21,7 @@ abbrev pub first_byte : Option (List ℕ) → ℕ
 first_byte (Some (b ∷ bytes)) = b
 first_byte _ = 0
 
--- The number that a character compares by: its byte in a set of one-byte spellings, else its code point.
+-- The number of a character: its byte in a set of one-byte spellings, else its code point.
 unfoldable pub bin_number : Charset → ℕ → ℕ
 bin_number set code = if is_one_byte set then first_byte (spell set code) else code
 

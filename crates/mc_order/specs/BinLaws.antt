@@ -1,18 +1,23 @@
 -- The binary collations keep the laws.
-use Rattle.std.proofs.Common.{◌≡◌, ℕ, ◌+◌, ◌-◌, ◌^◌, ◌<◌, ◌≤◌, Bool, true, false, cond, List, [], ◌∷◌, Some, map, length, take, drop, append-nil, refl, sym, ap, ◌∙◌, inl, arith}
+use Rattle.std.proofs.Common.{◌≡◌, ℕ, ◌+◌, ◌-◌, ◌^◌, ◌<◌, ◌≤◌, Bool, true, false, cond, List, []}
+use Rattle.std.proofs.Common.{◌∷◌, Some, map, length, take, drop, append-nil, refl, sym, ap, ◌∙◌}
+use Rattle.std.proofs.Common.{inl, arith}
 use Rattle.std.specs.List.{All}
 use Rattle.std.proofs.lemmas.List.Elements.{All-nil, All-cons}
 use Rattle.mc_charset.specs.declared.charset.Charset.{Charset}
-use Rattle.mc_charset.specs.declared.charset.Charset.TheVariants.{Latin1, Ascii, Utf8mb3, Utf8mb4, Ucs2, Utf16, Utf32, Binary}
+use Rattle.mc_charset.specs.declared.charset.Charset.TheVariants.{Latin1, Ascii, Utf8mb3, Utf8mb4}
+use Rattle.mc_charset.specs.declared.charset.Charset.TheVariants.{Ucs2, Utf16, Utf32, Binary}
 use Rattle.mc_charset.specs.Chars.{spell}
+use Rattle.mc_charset.proofs.CodePoints.{spelled_code_point}
 use Rattle.mc_order.specs.declared.pad.Pad.{Pad}
 use Rattle.mc_order.specs.declared.pad.Pad.TheVariants.{PadSpace, NoPad}
 use Rattle.mc_order.specs.Meaning.{IsCharOf, AreCharsOf}
-use Rattle.mc_order.specs.Laws.{KeepsSpace, KeepsSettings, IsWeight, IsCut, HasWeightPerChar, IsLawful}
+use Rattle.mc_order.specs.Laws.{KeepsSpace, KeepsSettings, IsWeight, IsCut, HasWeightPerChar}
+use Rattle.mc_order.specs.Laws.{IsLawful}
 use Rattle.mc_order.specs.WithoutContractions.{without_tails, map-split, enough}
 use Rattle.mc_order.specs.Bin.{is_one_byte, first_byte, bin_number, bin_meaning}
 use Rattle.mc_order.specs.Characters.{AreCharsOf-parts}
-use Rattle.mc_order.specs.Spelling.{code_below, one_byte}
+use Rattle.mc_order.specs.Spelling.{one_byte}
 
 space_number : (set : Charset) → bin_number set 0x20 + 1 ≡ 0x21
 unfolding bin_number spell
@@ -58,7 +63,7 @@ number_fits set true code text is s =
     ap first_byte s ∙ ap (λ t. first_byte (Some t)) h.1 in
     rw is (let l = h.2 in (omega arith, omega arith))
 number_fits set false code text is s = let h =
-    code_below set code text s in rw is (omega arith, omega arith)
+    spelled_code_point set code text s in rw is (omega arith, omega arith)
 
 back : (n : ℕ) → n + 1 - 1 ≡ n
 back n = omega arith

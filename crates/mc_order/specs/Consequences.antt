@@ -1,12 +1,14 @@
 -- What follows from the laws of a collation, for the ranges and patterns that rest on them.
-use Rattle.std.specs.Prelude.{◌≡◌, ◌≢◌, ◌==◌, ◌↔◌, ℕ, ◌≤◌, List, [], ◌∷◌, ◌++◌, take, drop, if◌then◌else◌}
+use Rattle.std.specs.Prelude.{◌≡◌, ◌≢◌, ◌==◌, ◌↔◌, ℕ, ◌≤◌, List, [], ◌∷◌, ◌++◌, take, drop}
+use Rattle.std.specs.Prelude.{if◌then◌else◌}
 use Rattle.std.specs.List.{All, AllZip}
 use Rattle.mc_charset.specs.declared.charset.Charset.{Charset}
 use Rattle.mc_charset.specs.Chars.{chars, IsWellFormed}
 use Rattle.mc_order.specs.declared.pad.Pad.TheVariants.{PadSpace}
 use Rattle.mc_order.specs.Floor.{floor_of}
 use Rattle.mc_order.specs.Laws.{greatest_weight}
-use Rattle.mc_order.specs.Meaning.{Meaning, separator, joined_levels, flat_list, IsCharOf, AreCharsOf, IsHead, IsSafe}
+use Rattle.mc_order.specs.Meaning.{Meaning, separator, joined_levels, flat_list, IsCharOf}
+use Rattle.mc_order.specs.Meaning.{AreCharsOf, IsHead, IsSafe}
 use Rattle.mc_order.specs.Tails.{tails_of}
 
 -- What stands before the first separator.
@@ -35,7 +37,7 @@ SpaceIsWeight m = m.pad ≡ PadSpace → (1 ≤ m.space) × (m.space ≤ greates
 abbrev pub IsSameChar : Meaning → ℕ → ℕ → Type 0
 IsSameChar m literal code = flat_list m (literal ∷ []) ≡ flat_list m (code ∷ [])
 
--- A text that begins with characters like these safe ones has their first list before that of what follows.
+-- Characters like these safe ones have their first list before that of what follows.
 abbrev pub SafeFrontStands : Meaning → Type 0
 SafeFrontStands m =
     (literals codes rest : List ℕ) → AreCharsOf m.charset literals →
@@ -68,7 +70,8 @@ CharsAreCut set =
 -- Two lists joined are characters of a set exactly where both are.
 abbrev pub CharsAreJoined : Charset → Type 0
 CharsAreJoined set =
-    (codes more : List ℕ) → AreCharsOf set (codes ++ more) ↔ (AreCharsOf set codes × AreCharsOf set more)
+    (codes more : List ℕ) →
+    AreCharsOf set (codes ++ more) ↔ (AreCharsOf set codes × AreCharsOf set more)
 
 -- The characters of a well formed text are some of the set.
 abbrev pub TextsAreChars : Charset → Type 0

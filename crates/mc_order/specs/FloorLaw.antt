@@ -1,13 +1,15 @@
 -- The search over the code points decides whether each character has a weight of its own.
-use Rattle.std.proofs.Common.{◌≡◌, ◌≢◌, ◌↔◌, ℕ, zero, suc, ◌<◌, Bool, true, false, cond, ◌&&◌, ◌||◌, not, List, [], ◌∷◌, Option, Some, None, refl, sym, ap, ◌∙◌, subst, ⊎_elim, arith}
+use Rattle.std.proofs.Common.{◌≡◌, ◌≢◌, ◌↔◌, ℕ, zero, suc, ◌<◌, Bool, true, false, cond, ◌&&◌, ◌||◌}
+use Rattle.std.proofs.Common.{not, List, [], ◌∷◌, Option, Some, None, refl, sym, ap, ◌∙◌, subst}
+use Rattle.std.proofs.Common.{⊎_elim, arith}
 use Rattle.std.specs.Option.{is_some}
 use Rattle.std.proofs.lemmas.Bool.{cases_lt}
-use Rattle.mc_charset.specs.Chars.{spell}
+use Rattle.mc_charset.specs.Chars.{spell, code_points}
+use Rattle.mc_charset.proofs.CodePoints.{spelled_code_point}
 use Rattle.mc_order.specs.Meaning.{Meaning}
 use Rattle.mc_order.specs.Laws.{HasWeightPerChar, KeepsFloor}
 use Rattle.mc_order.specs.Tails.{has_members}
-use Rattle.mc_order.specs.Floor.{each_below, code_points, weighs_if_char, weighs, floor_of}
-use Rattle.mc_order.specs.Spelling.{code_below}
+use Rattle.mc_order.specs.Floor.{each_below, weighs_if_char, weighs, floor_of}
 
 both : (a b : Bool) → (a && b) ≡ true → (a ≡ true) × (b ≡ true)
 both true b e = (refl, e)
@@ -66,7 +68,7 @@ weighs_all m e =
       none_there m.contractions parts.0,
       λ code is. if_char (spell m.charset code) (m.level_list 1 (code ∷ []))
           (each_passes code_points (weighs_if_char m.charset (m.level_list 1)) parts.1 code
-          (code_below m.charset code is.0 is.1)) is,
+          (spelled_code_point m.charset code is.0 is.1)) is,
     )
 
 all_weighs : (m : Meaning) → HasWeightPerChar m →

@@ -1,5 +1,6 @@
 -- What every collation keeps, so that indexes, ranges and patterns rest on these laws alone.
-use Rattle.std.specs.Prelude.{◌≡◌, ◌⊎◌, ◌↔◌, ◌≢◌, ℕ, ◌-◌, ◌^◌, ◌<◌, ◌≤◌, List, [], ◌∷◌, ◌++◌, length, take, slice_index_or}
+use Rattle.std.specs.Prelude.{◌≡◌, ◌⊎◌, ◌↔◌, ◌≢◌, ℕ, ◌-◌, ◌^◌, ◌<◌, ◌≤◌, List, [], ◌∷◌, ◌++◌}
+use Rattle.std.specs.Prelude.{length, take, slice_index_or}
 use Rattle.std.specs.List.{All, Contains}
 use Rattle.std.specs.declared.cmp.Ordering.TheVariants.{Less}
 use Rattle.mc_order.specs.declared.pad.Pad.{Pad}
@@ -45,7 +46,7 @@ KeepsEmpty m = (level : ℕ) → 1 ≤ level → level ≤ m.levels → m.level_
 abbrev pub KeepsContractions : Meaning → Type 0
 KeepsContractions m = All (λ codes. (2 ≤ length codes) × AreCharsOf m.charset codes) m.contractions
 
--- The first list of the first k characters: a prefix of the text's first list, and behind it nothing or a tail.
+-- The first k characters have a prefix of the text's first list, and behind it nothing or a tail.
 pub record IsCut (m : Meaning) (k : ℕ) (codes : List ℕ) : Type 0 where
   -- what both lists begin with
   pub kept : List ℕ
@@ -58,11 +59,11 @@ pub record IsCut (m : Meaning) (k : ℕ) (codes : List ℕ) : Type 0 where
   pub none_or_tail : (tail ≡ []) ⊎ Contains m.tails tail
   pub enough : (m.floor k ≤ length kept) ⊎ (rest ≡ [])
 
--- Cut law: the first k characters keep at least `floor k` of the text's first weights, or all of them, and add at most a tail.
+-- Cut law: the first k characters keep `floor k` of the first weights or more, or all, and add a tail at most.
 abbrev pub KeepsCut : Meaning → Type 0
 KeepsCut m = (k : ℕ) (codes : List ℕ) → AreCharsOf m.charset codes → IsCut m k codes
 
--- Head law: a character that begins no contraction has its own weights before those of what follows.
+-- Head law: what begins no contraction has its own weights before those of what follows.
 abbrev pub KeepsHead : Meaning → Type 0
 KeepsHead m =
     (level code : ℕ) (codes : List ℕ) → 1 ≤ level → level ≤ m.levels →
@@ -85,7 +86,7 @@ IsAscending lists =
     (i j : ℕ) → i < j → j < length lists →
     list_order NoPad 0 (slice_index_or lists i []) (slice_index_or lists j []) ≡ Less
 
--- The tails are the first lists of the proper prefixes of contractions, each once, in lexicographic order.
+-- The tails are the first lists of the contractions' proper prefixes, ascending.
 pub record KeepsTails (m : Meaning) : Type 0 where
   pub each : (weights : List ℕ) → Contains m.tails weights ↔ IsTail m weights
   pub ordered : IsAscending m.tails

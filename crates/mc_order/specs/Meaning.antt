@@ -1,4 +1,4 @@
--- What a collation means: its weight lists, its contractions, and how lists compare (UTS #10; MySQL 8.0 manual, 10.10).
+-- What a collation means: its weight lists, its contractions, how it pads (UTS #10; MySQL 8.0 manual, 10.10).
 use Rattle.std.specs.Prelude.{◌≡◌, ℕ, zero, suc, List, [], ◌∷◌, ◌++◌, ◌≢◌, Option, Some, None, take}
 use Rattle.std.specs.List.{Contains}
 use Rattle.mc_charset.specs.declared.charset.Charset.{Charset}

@@ -1,4 +1,4 @@
--- The order of two lists of weights: MySQL 8.0 manual, 10.8.5, "Trailing Space Handling in Comparisons".
+-- The order of two weight lists: MySQL 8.0 manual, 10.8.5, "Trailing Space Handling in Comparisons".
 use Rattle.std.specs.Prelude.{◌≡◌, ℕ, zero, suc, ◌<◌, List, [], ◌∷◌}
 use Rattle.std.specs.declared.cmp.Ordering.{Ordering}
 use Rattle.std.specs.declared.cmp.Ordering.TheVariants.{Less, Equal, Greater}
@@ -6,7 +6,7 @@ use Rattle.std.specs.Ordering.{nat_cmp, ordering_then, ordering_reverse}
 use Rattle.mc_order.specs.declared.pad.Pad.{Pad}
 use Rattle.mc_order.specs.declared.pad.Pad.TheVariants.{PadSpace, NoPad}
 
--- What stands behind a list's end: the space's weight, or without padding a mark below every weight.
+-- What stands behind a list's end: the space's weight, or unpadded a mark below every weight.
 -- A weight w counts as w + 1, so that the mark has a number.
 abbrev pub end_mark : Pad → ℕ → ℕ
 end_mark PadSpace space = suc space

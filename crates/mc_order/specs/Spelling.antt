@@ -1,45 +1,18 @@
 -- What the rows of a character set say of its spellings.
-use Rattle.std.proofs.Common.{◌≡◌, ℕ, ◌+◌, ◌-◌, ◌/◌, ◌<◌, ◌≤◌, ◌&&◌, nat_le, Bool, true, false, List, [], ◌∷◌, Some, refl, sym, ◌∙◌, arith}
+use Rattle.std.proofs.Common.{◌≡◌, ℕ, ◌+◌, ◌-◌, ◌/◌, ◌<◌, ◌≤◌, ◌&&◌, nat_le, Bool, true, false}
+use Rattle.std.proofs.Common.{List, [], ◌∷◌, Some, refl, sym, ◌∙◌, arith}
 use Rattle.std.proofs.lemmas.Bool.Decides.{nat_tests}
 use Rattle.mc_charset.specs.declared.charset.Charset.{Charset}
-use Rattle.mc_charset.specs.declared.charset.Charset.TheVariants.{Latin1, Ascii, Utf8mb3, Utf8mb4, Ucs2, Utf16, Utf32, Binary}
+use Rattle.mc_charset.specs.declared.charset.Charset.TheVariants.{Latin1, Ascii, Utf8mb3, Utf8mb4}
+use Rattle.mc_charset.specs.declared.charset.Charset.TheVariants.{Ucs2, Utf16, Utf32, Binary}
 use Rattle.mc_charset.specs.Rows.{Range, Row, count, sequence, has_code, spelling_in}
 use Rattle.mc_charset.specs.Tables.{rows}
 use Rattle.mc_charset.specs.Chars.{spell}
 use Rattle.mc_order.specs.Bin.{is_one_byte}
 
--- No row has a code from a number on.
-abbrev end_by : ℕ → List Row → Bool
-end_by end [] = true
-end_by end (row ∷ rows) = nat_le (row.first + count row.bytes) end && end_by end rows
-
 either : (b : Bool) (P : Type 0) → (b ≡ true → P) → (b ≡ false → P) → P
 either true P holds fails = holds refl
 either false P holds fails = fails refl
-
-below_end : (rows : List Row) (end code : ℕ) (front : List ℕ) → end_by end rows ≡ true →
-    spelling_in rows code ≡ Some front → code < end
-below_end [] end code front e s = absurd cc
-below_end (row ∷ rows) end code front e s =
-    either (has_code row code) (code < end)
-    (λ has. grind (arith, nat_tests))
-    (λ has. below_end rows end code front (grind (arith, nat_tests)) (rw has at s))
-
-ends : (set : Charset) → end_by 0x110000 (rows set) ≡ true
-ends Latin1 = refl
-ends Ascii = refl
-ends Utf8mb3 = refl
-ends Utf8mb4 = refl
-ends Ucs2 = refl
-ends Utf16 = refl
-ends Utf32 = refl
-ends Binary = refl
-
--- A character is a code point.
-pub code_below : (set : Charset) (code : ℕ) (front : List ℕ) → spell set code ≡ Some front →
-    code < 0x110000
-unfolding spell
-code_below set code front s = below_end (rows set) 0x110000 code front (ends set) s
 
 -- These ranges are one range of bytes.
 abbrev is_byte : List Range → Bool

@@ -1,4 +1,4 @@
--- The tails of contractions: the first lists of their proper prefixes (how UTS #10, 3.3, lets a prefix end inside one).
+-- The tails of contractions (UTS #10, 3.3): the first lists of their proper prefixes.
 use Rattle.std.specs.Prelude.{ℕ, Bool, true, false, List, [], ◌∷◌, map, drop}
 use Rattle.std.specs.List.{filter, flat_map}
 use Rattle.std.specs.Ordering.{match_ordering}

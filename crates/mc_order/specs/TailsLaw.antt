@@ -1,10 +1,12 @@
 -- `tails_of` gives the tails that the laws ask for.
-use Rattle.std.proofs.Common.{◌≡◌, ◌≢◌, ◌⊎◌, ◌↔◌, ℕ, List, [], ◌∷◌, ◌++◌, map, refl, sym, ap, ◌∙◌, subst, inl, inr, ⊎_elim}
+use Rattle.std.proofs.Common.{◌≡◌, ◌≢◌, ◌⊎◌, ◌↔◌, ℕ, List, [], ◌∷◌, ◌++◌, map, refl, sym, ap, ◌∙◌}
+use Rattle.std.proofs.Common.{subst, inl, inr, ⊎_elim}
 use Rattle.std.specs.List.{Contains, filter, flat_map}
 use Rattle.mc_order.specs.Meaning.{Meaning, IsTail}
 use Rattle.mc_order.specs.Laws.{KeepsTails, IsAscending}
 use Rattle.mc_order.specs.Tails.{ascending, fronts, proper_prefixes, has_members, tails_of}
-use Rattle.mc_order.specs.Ascending.{Among, Among-from_Contains, Contains-from_Among, IsAscending-from_rises, rises_ascending, Among_ascending}
+use Rattle.mc_order.specs.Ascending.{Among, Among-from_Contains, Contains-from_Among}
+use Rattle.mc_order.specs.Ascending.{IsAscending-from_rises, rises_ascending, Among_ascending}
 
 -- A member of a filtered list passes the test, and the other way round.
 among_filter : (zs : List (List ℕ)) (z : List ℕ) → Among z (filter has_members zs) →
@@ -150,7 +152,8 @@ unfolding tails_of ascending
 tails_of-none first = refl
 
 -- A collation whose tails are so keeps the law of tails.
-pub KeepsTails-from : (m : Meaning) → m.tails ≡ tails_of (m.level_list 1) m.contractions → KeepsTails m
+pub KeepsTails-from : (m : Meaning) → m.tails ≡ tails_of (m.level_list 1) m.contractions →
+    KeepsTails m
 KeepsTails-from m e = record {
   each = λ weights. (
     λ h. (tails_of-each m weights).0 (subst (λ tails. Contains tails weights) e h),

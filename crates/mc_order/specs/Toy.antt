@@ -1,5 +1,6 @@
 -- A small kind of collation for the tests, of two weight levels over bytes, in Hungarian's manner.
-use Rattle.std.specs.Prelude.{ℕ, zero, suc, ◌+◌, ◌-◌, ◌==◌, ◌&&◌, Bool, false, nat_le, List, [], ◌∷◌, ◌++◌, if◌then◌else◌}
+use Rattle.std.specs.Prelude.{ℕ, zero, suc, ◌+◌, ◌-◌, ◌==◌, ◌&&◌, Bool, false, nat_le, List, []}
+use Rattle.std.specs.Prelude.{◌∷◌, ◌++◌, if◌then◌else◌}
 use Rattle.mc_charset.specs.declared.charset.Charset.TheVariants.{Binary}
 use Rattle.mc_order.specs.declared.pad.Pad.TheVariants.{NoPad}
 use Rattle.mc_order.specs.Meaning.{Meaning}
@@ -8,7 +9,7 @@ use Rattle.mc_order.specs.Meaning.{Meaning}
 abbrev pub folded : ℕ → ℕ
 folded code = if nat_le 0x61 code && nat_le code 0x7A then code - 0x20 else code
 
--- The weights of a capital: - has none, & those of ET, á (E1) the first weight of a and a second one of its own.
+-- The weights of a capital: - has none, & those of ET, á (E1) the first of a and a second of its own.
 abbrev pub capital_weights : ℕ → ℕ → List ℕ
 capital_weights level code =
     if code == 0x2D then [] else

@@ -1,19 +1,23 @@
 -- The small kind of the tests keeps the laws.
-use Rattle.std.proofs.Common.{◌≡◌, ◌≢◌, ◌⊎◌, ◌↔◌, ℕ, zero, suc, ◌+◌, ◌-◌, ◌<◌, ◌≤◌, ◌==◌, Bool, true, false, cond, List, [], ◌∷◌, ◌++◌, append_assoc, append-nil, length, take, refl, sym, ap, ◌∙◌, inl, inr, arith}
+use Rattle.std.proofs.Common.{◌≡◌, ◌≢◌, ◌⊎◌, ◌↔◌, ℕ, zero, suc, ◌+◌, ◌-◌, ◌<◌, ◌≤◌, ◌==◌, Bool}
+use Rattle.std.proofs.Common.{true, false, cond, List, [], ◌∷◌, ◌++◌, append_assoc, append-nil}
+use Rattle.std.proofs.Common.{length, take, refl, sym, ap, ◌∙◌, inl, inr, arith}
 use Rattle.std.specs.List.{All, Contains}
 use Rattle.std.specs.Prelude.{slice_index_or, if◌then◌else◌}
 use Rattle.std.proofs.lemmas.Bool.Decides.{nat_tests}
 use Rattle.std.proofs.lemmas.List.Elements.{All-nil, All-cons, All-append}
 use Rattle.mc_charset.specs.declared.charset.Charset.TheVariants.{Binary}
 use Rattle.mc_charset.specs.Chars.{spell, spell_all}
+use Rattle.mc_charset.proofs.CodePoints.{spelled_code_point}
 use Rattle.mc_order.specs.Order.{list_order, order_to_end}
 use Rattle.mc_order.specs.Meaning.{flat_list, IsHead, IsSafe, AreCharsOf}
-use Rattle.mc_order.specs.Laws.{IsWeight, IsCut, KeepsSettings, KeepsContractions, KeepsTails, IsLawful}
+use Rattle.mc_order.specs.Laws.{IsWeight, IsCut, KeepsSettings, KeepsContractions, KeepsTails}
+use Rattle.mc_order.specs.Laws.{IsLawful}
 use Rattle.mc_order.specs.Characters.{AreCharsOf-parts}
-use Rattle.mc_order.specs.Spelling.{code_below}
 use Rattle.mc_order.specs.Tails.{insert_list, ascending, fronts, tails_of}
 use Rattle.mc_order.specs.TailsLaw.{KeepsTails-from}
-use Rattle.mc_order.specs.Toy.{folded, capital_weights, begins_dzs, dzs_weights, toy_list, toy_meaning}
+use Rattle.mc_order.specs.Toy.{folded, capital_weights, begins_dzs, dzs_weights, toy_list}
+use Rattle.mc_order.specs.Toy.{toy_meaning}
 
 -- One step of the list, by whether dzs begins it.
 pub toy_list-dzs : (level code : ℕ) (codes : List ℕ) → begins_dzs (code ∷ codes) ≡ true →
@@ -102,7 +106,7 @@ bounds (suc skipped) level (code ∷ codes) chars =
     bounds skipped level codes (AreCharsOf-parts Binary code codes chars).1
 bounds zero level (code ∷ codes) chars =
     let parts = AreCharsOf-parts Binary code codes chars in
-    let below = code_below Binary code parts.0.0 parts.0.1 in
+    let below = spelled_code_point Binary code parts.0.0 parts.0.1 in
     at_level (begins_dzs (code ∷ codes)) (dzs_weights level ++ toy_list 2 level codes)
     (capital_weights level (folded code) ++ toy_list 0 level codes)
     (All-append (IsWeight toy_meaning) (dzs_weights level) (toy_list 2 level codes)
@@ -160,7 +164,8 @@ dzs_cut (suc zero) code (x ∷ y ∷ codes) e more =
     )
 dzs_cut (suc (suc k)) code (x ∷ y ∷ codes) e more =
     rw (toy_list-dzs 1 code (x ∷ y ∷ take k codes) e, toy_list-dzs 1 code (x ∷ y ∷ codes) e)
-    (extend (dzs_weights 1) (toy_list 2 1 (x ∷ y ∷ take k codes)) (toy_list 2 1 (x ∷ y ∷ codes)) more)
+    (extend (dzs_weights 1) (toy_list 2 1 (x ∷ y ∷ take k codes)) (toy_list 2 1 (x ∷ y ∷ codes))
+    more)
 
 cut_step : (k code : ℕ) (codes : List ℕ) (begins : Bool) → begins_dzs (code ∷ codes) ≡ begins →
     HasCut (toy_list 0 1 (take k codes)) (toy_list 0 1 codes) →
@@ -168,8 +173,10 @@ cut_step : (k code : ℕ) (codes : List ℕ) (begins : Bool) → begins_dzs (cod
     HasCut (toy_list 0 1 (code ∷ take k codes)) (toy_list 0 1 (code ∷ codes))
 cut_step k code codes true e one more = dzs_cut k code codes e more
 cut_step k code codes false e one more =
-    rw (toy_list-char 1 code (take k codes) (begins_less k code codes e), toy_list-char 1 code codes e)
-    (extend (capital_weights 1 (folded code)) (toy_list 0 1 (take k codes)) (toy_list 0 1 codes) one)
+    let less = begins_less k code codes e in
+    rw (toy_list-char 1 code (take k codes) less, toy_list-char 1 code codes e)
+    (extend (capital_weights 1 (folded code)) (toy_list 0 1 (take k codes)) (toy_list 0 1 codes)
+    one)
 
 has_cut : (skipped k : ℕ) (codes : List ℕ) →
     HasCut (toy_list skipped 1 (take k codes)) (toy_list skipped 1 codes)

@@ -1,5 +1,6 @@
 -- What a collation keeps that has no contractions, and lists of one weight a character.
-use Rattle.std.proofs.Common.{◌≡◌, ◌⊎◌, ℕ, zero, suc, ◌≤◌, List, [], ◌∷◌, ◌++◌, map, length, take, drop, refl, sym, ap, ◌∙◌, inl, inr, arith}
+use Rattle.std.proofs.Common.{◌≡◌, ◌⊎◌, ℕ, zero, suc, ◌≤◌, List, [], ◌∷◌, ◌++◌, map, length, take}
+use Rattle.std.proofs.Common.{drop, refl, sym, ap, ◌∙◌, inl, inr, arith}
 use Rattle.mc_order.specs.Meaning.{Meaning}
 use Rattle.mc_order.specs.Laws.{KeepsTails}
 use Rattle.mc_order.specs.Tails.{tails_of}

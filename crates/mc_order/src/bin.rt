@@ -7,7 +7,7 @@ ghost use Rattle.std.specs.Prelude.{◌≡◌, ◌+◌, ◌≤◌, ◌∷◌, []
 use crate::bin_number::bin_number;
 use crate::{CharWeight, Collation, Pad, compare_chars, put_chars};
 use mc_base::{NoMemory, Weights};
-use mc_charset::{Charset, CollId, chars_law};
+use mc_charset::{Charset, CollId, Encoding, chars_law};
 use std::cmp::Ordering;
 use std::marker::Model;
 
@@ -59,8 +59,9 @@ impl CharWeight for BinCollation {
         self.charset
     }
 
-    fn weight(&self, code: u32, spelling: &[u8]) -> u32 {
-        bin_number(self.charset, code, spelling) + 1
+    #[inline(always)]
+    fn weight<E: Encoding>(&self, code: u32, spelling: &[u8]) -> u32 {
+        bin_number::<E>(code, spelling) + 1
     }
 }
 

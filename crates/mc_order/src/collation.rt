@@ -7,7 +7,8 @@ ghost use Rattle.mc_order.specs.Consequences.{CharsAreCut, CharsAreJoined, Texts
 ghost use Rattle.mc_order.specs.Laws.{IsLawful};
 ghost use Rattle.mc_order.specs.Meaning.{Meaning, flat_list, first_chars, IsCharOf, IsSafe};
 ghost use Rattle.mc_order.specs.Order.{list_order};
-ghost use Rattle.std.specs.Prelude.{◌≡◌, ◌++◌, ◌∷◌, ◌↔◌, [], IsTrue, OnOk, OnErr, length, slice_index_or};
+ghost use Rattle.std.specs.Prelude.{◌≡◌, ℕ, List, ◌++◌, ◌∷◌, ◌↔◌, [], IsTrue, OnOk, OnErr, length};
+ghost use Rattle.std.specs.Prelude.{slice_index_or};
 
 use crate::Pad;
 use mc_base::{NoMemory, Weights};
@@ -50,14 +51,16 @@ pub trait Collation {
     fn compare(&self, a: &[u8], b: &[u8]) -> Ordering
         requires first { IsWellFormed (meaning self.now).charset a.now }
         requires second { IsWellFormed (meaning self.now).charset b.now }
-        ensures { let m = meaning self.now in result
-            ≡ list_order m.pad m.space (flat_list m (chars m.charset a.now)) (flat_list m (chars m.charset b.now)) };
+        ensures { let m = meaning self.now in
+            let flat = λ (text : List ℕ). flat_list m (chars m.charset text) in
+            result ≡ list_order m.pad m.space (flat a.now) (flat b.now) };
 
     /// Whether two characters have the same flat list.
     fn same_char(&self, c: u32, d: u32) -> bool
         requires first { IsCharOf (meaning self.now).charset c }
         requires second { IsCharOf (meaning self.now).charset d }
-        ensures { IsTrue result ↔ (flat_list (meaning self.now) (c ∷ []) ≡ flat_list (meaning self.now) (d ∷ [])) };
+        ensures { let m = meaning self.now in
+            IsTrue result ↔ (flat_list m (c ∷ []) ≡ flat_list m (d ∷ [])) };
 
     /// Whether no character that begins a contraction has the flat list of this one.
     fn safe(&self, c: u32) -> bool

@@ -62,11 +62,13 @@ fn order_to_spaces(list: &[u32], space: u32) -> Ordering
 }
 
 /// What `list_order` is: the one order of two lists that are prolonged without end, and so a total
-/// order. What two lists begin with decides nothing. Without padding only one list is equal to
-/// itself, and none is above what begins with it; and ascending lists of one set of members are one.
+/// order. What two lists begin with decides nothing. Without padding only one list is equal to a
+/// list, and none is above what begins with it. Ascending lists of the same members are one.
 pub fn order_laws()
-    ensures described { (pad : Padding) (space : ℕ) (a b : List ℕ) → IsOrder pad space a b (list_order pad space a b) }
-    ensures unique { (pad : Padding) (space : ℕ) (a b : List ℕ) (order : _) → IsOrder pad space a b order → list_order pad space a b ≡ order }
+    ensures described { (pad : Padding) (space : ℕ) (a b : List ℕ) →
+        IsOrder pad space a b (list_order pad space a b) }
+    ensures unique { (pad : Padding) (space : ℕ) (a b : List ℕ) (order : _) →
+        IsOrder pad space a b order → list_order pad space a b ≡ order }
     ensures total { (pad : Padding) (space : ℕ) → IsTotalOrder (list_order pad space) }
     ensures front { (pad : Padding) (space : ℕ) (front a b : List ℕ) →
         list_order pad space (front ++ a) (front ++ b) ≡ list_order pad space a b }

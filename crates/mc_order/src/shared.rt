@@ -2,6 +2,7 @@ ghost use Rattle.mc_charset.specs.Chars.{IsWellFormed};
 ghost use Rattle.mc_order.specs.Boundary.{IsBoundary, SharesFront, may_begin};
 ghost use Rattle.std.specs.Prelude.{◌≡◌, ◌≤◌, ◌<◌, IsTrue, length, take};
 
+use crate::shared_bytes;
 use mc_charset::{Charset, chars_law};
 
 /// Whether a spelling may begin at a place of a text with this byte.
@@ -15,21 +16,6 @@ fn may_begin(charset: Charset, at: usize, byte: u8) -> bool
         Charset::Utf16 => at % 2 == 0 && (byte < 0xDC || byte > 0xDF),
         Charset::Utf32 => at % 4 == 0,
     }
-}
-
-/// How many bytes two texts have in common in front.
-fn same_bytes(a: &[u8], b: &[u8]) -> usize
-    ensures within_first { result ≤ length a.now }
-    ensures within_second { result ≤ length b.now }
-    ensures same { take result a.now ≡ take result b.now }
-{
-    let shorter = a.len().min(b.len());
-    for i in 0..shorter {
-        if a[i] != b[i] {
-            return i;
-        }
-    }
-    shorter
 }
 
 /// Whether a character begins at a place of a text, or the text ends there.
@@ -74,7 +60,7 @@ pub(crate) fn shared_start(charset: Charset, a: &[u8], b: &[u8]) -> usize
     ensures shared { SharesFront charset a.now b.now result }
 {
     chars_law();
-    let mut start = same_bytes(a, b);
+    let mut start = shared_bytes(a, b);
     while !is_shared_boundary(charset, a, b, start) {
         start -= 1;
     }

@@ -11,7 +11,8 @@ pub trait WeightStream {
 
     /// The next weight; None at the end, and from then on.
     fn next_weight(&mut self) -> Option<u32>
-        ensures { MatchOption result ((left self.old ≡ []) × (left self.new ≡ [])) (λ weight. left self.old ≡ weight ∷ left self.new) };
+        ensures { MatchOption result ((left self.old ≡ []) × (left self.new ≡ []))
+            (λ weight. left self.old ≡ weight ∷ left self.new) };
 }
 
 /// The order of the weights that two streams still give, up to the first difference.

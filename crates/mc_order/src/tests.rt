@@ -14,58 +14,84 @@ struct Row {
     order: Ordering,
 }
 
+const ROWS: [Row; 10] = [
+    Row {
+        why: "binary compares bytes, and a space counts",
+        id: 0,
+        a: b"a ",
+        b: b"a",
+        order: Ordering::Greater,
+    },
+    Row {
+        why: "latin1 compares by bytes",
+        id: 1,
+        a: b"\x80",
+        b: b"\xFF",
+        order: Ordering::Less,
+    },
+    Row {
+        why: "ascii is padded",
+        id: 2,
+        a: b"a  ",
+        b: b"a",
+        order: Ordering::Equal,
+    },
+    Row {
+        why: "utf8mb3 compares by code points",
+        id: 3,
+        a: b"\xC3\xA9",
+        b: b"z",
+        order: Ordering::Greater,
+    },
+    Row {
+        why: "TAB is below the space that prolongs",
+        id: 4,
+        a: b"a\t",
+        b: b"a",
+        order: Ordering::Less,
+    },
+    Row {
+        why: "ucs2 compares by code points",
+        id: 5,
+        a: b"\x01\x00",
+        b: b"\x00\xFF",
+        order: Ordering::Greater,
+    },
+    Row {
+        why: "U+FFFD is below U+1F600 in utf16",
+        id: 6,
+        a: b"\xFF\xFD",
+        b: b"\xD8\x3D\xDE\x00",
+        order: Ordering::Less,
+    },
+    Row {
+        why: "utf32 is padded by characters",
+        id: 7,
+        a: b"\x00\x00\x00a\x00\x00\x00 ",
+        b: b"\x00\x00\x00a",
+        order: Ordering::Equal,
+    },
+    Row {
+        why: "without padding a prefix is first",
+        id: 8,
+        a: b"a\t",
+        b: b"a",
+        order: Ordering::Greater,
+    },
+    Row {
+        why: "a difference stands behind a block that both have",
+        id: 4,
+        a: b"0123456789012345678901234567890123a",
+        b: b"0123456789012345678901234567890123b",
+        order: Ordering::Less,
+    },
+];
+
 #[test]
 fn texts_compare(rt: HostRuntime) {
-    let rows = [
-        Row {
-            why: "TAB is below the space that prolongs",
-            id: 4,
-            a: b"a\t",
-            b: b"a",
-            order: Ordering::Less,
-        },
-        Row {
-            why: "trailing spaces count for nothing",
-            id: 4,
-            a: b"a  ",
-            b: b"a",
-            order: Ordering::Equal,
-        },
-        Row {
-            why: "without padding a prefix is first",
-            id: 8,
-            a: b"a\t",
-            b: b"a",
-            order: Ordering::Greater,
-        },
-        Row {
-            why: "without padding a space counts",
-            id: 8,
-            a: b"a ",
-            b: b"a",
-            order: Ordering::Greater,
-        },
-        Row {
-            why: "U+FFFD is below U+1F600 in utf16",
-            id: 6,
-            a: b"\xFF\xFD",
-            b: b"\xD8\x3D\xDE\x00",
-            order: Ordering::Less,
-        },
-        Row {
-            why: "latin1 compares by bytes",
-            id: 1,
-            a: b"\x80",
-            b: b"\xFF",
-            order: Ordering::Less,
-        },
-    ];
-    for row in &rows {
-        assert!(rt;
-            order_of(row.id, row.a, row.b) == Some(row.order),
-            "{}",
-            row.why
-        );
+    for row in &ROWS {
+        let order = order_of(row.id, row.a, row.b);
+        assert!(rt; order == Some(row.order), "{}", row.why);
     }
 }
 
@@ -82,14 +108,22 @@ fn order_of(id: u32, a: &[u8], b: &[u8]) -> Option<Ordering> {
 }
 
 #[test]
-fn a_list_is_put(rt: HostRuntime) {
+fn lists_are_put(rt: HostRuntime) {
     let collation = BinCollation::new(CollId(4));
     let mut out = Weights::new(rt.alloc());
     if is_well_formed(collation.charset(), b"\xC3\xA9b") {
         assert!(rt; collation.put_list(b"\xC3\xA9b", Some(1), &mut out).is_ok());
+        assert!(rt; collation.put_list(b"\xC3\xA9b", None, &mut out).is_ok());
     }
-    assert!(rt; out.as_slice() == [0xE9 + 1].as_slice());
-    assert!(rt; compare_lists(out.as_slice(), &[0x61], Pad::NoPad, 0) == Ordering::Greater);
+    assert!(rt; out.as_slice() == [0xEA, 0xEA, 0x63].as_slice());
+}
+
+#[test]
+fn lists_compare(rt: HostRuntime) {
+    let (tab, space) = ([0x62, 0x0A], [0x62, 0x21]);
+    assert!(rt; compare_lists(&tab, &tab[..1], Pad::NoPad, 0) == Ordering::Greater);
+    assert!(rt; compare_lists(&tab, &tab[..1], Pad::PadSpace, 0x21) == Ordering::Less);
+    assert!(rt; compare_lists(&space[..1], &space, Pad::PadSpace, 0x21) == Ordering::Equal);
 }
 
 /// Two texts of the small kind, and their order.

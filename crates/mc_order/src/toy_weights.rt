@@ -4,7 +4,8 @@ ghost use Rattle.mc_order.specs.Toy.{begins_dzs, capital_weights, dzs_weights, f
 ghost use Rattle.mc_order.specs.Toy.{toy_list, toy_meaning};
 ghost use Rattle.std.specs.Bool.{OnTrue};
 ghost use Rattle.std.specs.Option.{option_to_list};
-ghost use Rattle.std.specs.Prelude.{◌≡◌, None, ◌<◌, ◌≤◌, ◌++◌, ◌∷◌, [], length, drop, if◌then◌else◌};
+ghost use Rattle.std.specs.Prelude.{◌≡◌, None, ◌<◌, ◌≤◌, ◌++◌, ◌∷◌, [], length, drop};
+ghost use Rattle.std.specs.Prelude.{if◌then◌else◌};
 
 use crate::WeightStream;
 
@@ -29,7 +30,8 @@ struct Piece {
 
 /// The weights of a byte.
 fn byte_weights(level: u32, byte: u8) -> (Option<u32>, Option<u32>)
-    ensures weights { option_to_list result.0 ++ option_to_list result.1 ≡ capital_weights level (folded byte) }
+    ensures weights { option_to_list result.0 ++ option_to_list result.1
+        ≡ capital_weights level (folded byte) }
     ensures none { result.0 ≡ None → result.1 ≡ None }
 {
     match (folded(u32::from(byte)), level) {
@@ -96,7 +98,8 @@ struct LevelWeights<'a> {
 }
 
 impl<'a> WeightStream for LevelWeights<'a> {
-    ghost left = { λ weights. option_to_list weights.second ++ toy_list 0 weights.level weights.text.now };
+    ghost left = { λ weights. option_to_list weights.second
+        ++ toy_list 0 weights.level weights.text.now };
 
     fn next_weight(&mut self) -> Option<u32> {
         if let Some(weight) = self.second {

@@ -1,15 +1,13 @@
 -- The bytes of a text in a set of one-byte spellings are its characters.
-use Rattle.std.proofs.Common.{◌≡◌, ℕ, ◌-◌, ◌<◌, true, List, [], ◌∷◌, ◌++◌, Option, Some, None, map, length, take, take_all, drop, length-drop, refl, sym, ap, ◌∙◌, ⊎_elim, arith}
-use Rattle.std.proofs.lemmas.Bool.{cases_order}
+use Rattle.std.proofs.Common.{◌≡◌, ℕ, ◌+◌, ◌-◌, ◌<◌, true, List, [], ◌∷◌, ◌++◌, append-nil, Option, Some, None, map, length, get_or, take, take_all, drop, length-drop, refl, sym, ap, ◌∙◌, arith}
 use Rattle.std.specs.Prelude.{option_and_then}
 use Rattle.std.specs.List.{flat_map}
 use Rattle.std.proofs.lemmas.Grind.{flat_map-append}
-use Rattle.std.proofs.lemmas.List.{take-append-drop, take-map}
+use Rattle.std.proofs.lemmas.List.{take-append-drop, take-map, take_more}
 use Rattle.std.proofs.lemmas.List.Folds.{flat_map-map}
 use Rattle.mc_charset.specs.declared.charset.Charset.{Charset}
 use Rattle.mc_charset.specs.declared.charset.Charset.TheVariants.{Latin1, Ascii, Utf8mb3, Utf8mb4, Ucs2, Utf16, Utf32, Binary}
 use Rattle.mc_charset.specs.Chars.{spell, spell_all, chars, Spells, IsWellFormed}
-use Rattle.mc_charset.specs.NextChar.{IsFirst}
 use Rattle.mc_order.specs.Meaning.{IsCharOf}
 use Rattle.mc_order.specs.declared.pad.Pad.{Pad}
 use Rattle.mc_order.specs.Bin.{is_one_byte, first_byte}
@@ -17,7 +15,7 @@ use Rattle.mc_order.specs.Characters.{AreCharsOf-parts}
 use Rattle.mc_order.specs.Spelling.{one_byte}
 use Rattle.mc_order.specs.Order.{list_order}
 use Rattle.mc_order.proofs.Steps.{list_order-front}
-use Rattle.mc_table8.specs.Table8.{byte_entry}
+use Rattle.mc_table8.specs.Table8.{byte_entry, plain_weight}
 use Rattle.mc_table8.specs.Table8Meaning.{is_byte_set, entry_weights, char_weights, bytes_weights}
 
 take_rest : (xs : List ℕ) (n : ℕ) → take (length xs - n) (drop n xs) ≡ drop n xs
@@ -29,17 +27,52 @@ split f n bytes =
     sym (ap (flat_map f) (take-append-drop n bytes)) ∙ flat_map-append f (take n bytes)
     (drop n bytes)
 
+-- Bytes in front whose weights are the same decide nothing.
+pub behind_weights : (pad : Pad) (space : ℕ) (f : ℕ → List ℕ) (a b : List ℕ) (n : ℕ) →
+    flat_map f (take n a) ≡ flat_map f (take n b) →
+    list_order pad space (flat_map f (take (length a - n) (drop n a))) (flat_map f
+    (take (length b - n) (drop n b)))
+    ≡ list_order pad space (flat_map f a) (flat_map f b)
+behind_weights pad space f a b n e =
+    rw (take_rest a n, take_rest b n)
+    (sym (rw (split f n a, split f n b, e)
+    (list_order-front pad space (flat_map f (take n b)) (flat_map f (drop n a)) (flat_map f
+    (drop n b)))))
+
 -- What both texts begin with decides nothing.
 pub behind_bytes : (pad : Pad) (space : ℕ) (f : ℕ → List ℕ) (a b : List ℕ) (n : ℕ) →
     take n a ≡ take n b →
     list_order pad space (flat_map f (take (length a - n) (drop n a))) (flat_map f
     (take (length b - n) (drop n b)))
     ≡ list_order pad space (flat_map f a) (flat_map f b)
-behind_bytes pad space f a b n e =
-    rw (take_rest a n, take_rest b n)
-    (sym (rw (split f n a, split f n b, e)
-    (list_order-front pad space (flat_map f (take n b)) (flat_map f (drop n a)) (flat_map f
-    (drop n b)))))
+behind_bytes pad space f a b n e = behind_weights pad space f a b n (ap (flat_map f) e)
+
+-- One byte more of one weight, the same in both texts.
+one_weight : (entry : ℕ × Option ℕ) (weight : ℕ) → plain_weight entry ≡ weight → 0 < weight →
+    entry_weights entry ≡ weight ∷ []
+one_weight (first, None) weight e some = ap (λ w. w ∷ []) e
+one_weight (first, Some second) weight e some = absurd (omega arith)
+
+step : (f : ℕ → List ℕ) (a : List ℕ) (i : ℕ) → i < length a →
+    flat_map f (take (i + 1) a) ≡ flat_map f (take i a) ++ f (get_or a i 0)
+step f a i l =
+    ap (flat_map f) (take_more a i 0 l)
+    ∙ flat_map-append f (take i a) (get_or a i 0 ∷ [])
+    ∙ ap (λ t. flat_map f (take i a) ++ t) (append-nil (f (get_or a i 0)))
+
+pub plain_more : (entries : List (ℕ × Option ℕ)) (a b : List ℕ) (i weight : ℕ) → i < length a →
+    i < length b → bytes_weights entries (take i a) ≡ bytes_weights entries (take i b) →
+    0 < weight → plain_weight (byte_entry entries (get_or a i 0)) ≡ weight →
+    plain_weight (byte_entry entries (get_or b i 0)) ≡ weight →
+    bytes_weights entries (take (i + 1) a) ≡ bytes_weights entries (take (i + 1) b)
+plain_more entries a b i weight la lb front some ea eb =
+    let f : ℕ → List ℕ = λ byte. entry_weights (byte_entry entries byte) in
+    step f a i la
+    ∙ rw (
+      front,
+      one_weight (byte_entry entries (get_or a i 0)) weight ea some,
+      ← one_weight (byte_entry entries (get_or b i 0)) weight eb some,
+    ) (sym (step f b i lb))
 
 -- latin1 and ascii spell each character by one byte.
 pub by_one_byte : (set : Charset) → is_byte_set set ≡ true → is_one_byte set ≡ true
@@ -51,12 +84,6 @@ by_one_byte Ucs2 e = absurd cc
 by_one_byte Utf16 e = absurd cc
 by_one_byte Utf32 e = absurd cc
 by_one_byte Binary e = absurd cc
-
--- No spelling of the set is a proper prefix of another one.
-abbrev pub HasNoPrefix : Charset → Type 0
-HasNoPrefix set =
-    (code other : ℕ) (front more : List ℕ) → spell set code ≡ Some front →
-    spell set other ≡ Some (front ++ more) → (code ≡ other) × (more ≡ [])
 
 joined : (front rest : Option (List ℕ)) (a b text : List ℕ) → front ≡ Some a → rest ≡ Some b →
     option_and_then (λ f. option_and_then (λ r. Some (f ++ r)) rest) front ≡ Some text →
@@ -134,27 +161,9 @@ compare_is set entries pad space a b on_bytes decodes ha hb =
           decodes hb,
     ) refl
 
--- A character that begins one byte is spelled by it.
-pub spelled_by : (set : Charset) (byte found code len : ℕ) →
-    IsFirst set (byte ∷ []) found len → found ≡ code → spell set code ≡ Some (byte ∷ [])
-spelled_by set byte found code len h e =
-    let one : len ≡ 1 = let p = h.positive in let w = h.within in omega arith in
-    ap (spell set) (sym e) ∙ h.spelled ∙ ap (λ n. Some (take n (byte ∷ []))) one
-
--- And is the one that it spells.
-pub found_is : (set : Charset) (byte found code len : ℕ) → HasNoPrefix set →
-    IsFirst set (byte ∷ []) found len → spell set code ≡ Some (byte ∷ []) → found ≡ code
-found_is set byte found code len law h e =
-    (law found code (byte ∷ []) [] (spelled_by set byte found found len h refl) e).0
-
--- The byte of a character is not among those that don't spell it.
-pub byte_behind : (set : Charset) (code byte : ℕ) → is_byte_set set ≡ true → IsCharOf set code →
-    ((b : ℕ) → b < byte → spell set code ≡ Some (b ∷ []) → ⊥) →
-    (spell set code ≡ Some (byte ∷ []) → ⊥) → byte < 255
-byte_behind set code byte on_bytes is none other =
+-- In latin1 and ascii one byte spells a character.
+pub has_byte : (set : Charset) (code : ℕ) → is_byte_set set ≡ true → IsCharOf set code →
+    (byte : ℕ) × (spell set code ≡ Some (byte ∷ []))
+has_byte set code on_bytes is =
     let h = one_byte set code is.0 (by_one_byte set on_bytes) is.1 in
-    let spelled : spell set code ≡ Some (h.0 ∷ []) = is.1 ∙ ap (λ t. Some t) h.1 in
-    let l = h.2 in
-    ⊎_elim (λ same. absurd (other (spelled ∙ ap (λ b. Some (b ∷ [])) same)))
-    (⊎_elim (λ less. absurd (none h.0 less spelled)) (λ greater. omega arith))
-    (cases_order h.0 byte)
+    (h.0, is.1 ∙ ap (λ t. Some t) h.1)

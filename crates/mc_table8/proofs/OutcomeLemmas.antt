@@ -1,47 +1,24 @@
 -- What the readers say line by line is what the outcome of the text says.
-use Rattle.std.proofs.Common.{◌≡◌, ℕ, zero, suc, ◌<◌, ◌≤◌, ◌≢◌, Bool, true, false, List, [], ◌∷◌, length, take, get_or, Option, Some, None, Result, Ok, Err, MatchResult, is_none, position, option_map, refl, sym, ap, ◌∙◌, arith, nat_lt, cond}
-use Rattle.std.specs.List.{slice_get, range_with_len, position_or_len}
+use Rattle.std.proofs.Common.{◌≡◌, ℕ, ◌<◌, ◌≤◌, ◌≢◌, Bool, true, false, List, length, get_or, Option, Some, None, Result, Ok, Err, MatchResult, is_none, position, option_map, refl, sym, ap, ◌∙◌, arith, nat_lt, cond}
+use Rattle.std.specs.List.{range_with_len, position_or_len}
 use Rattle.std.specs.Option.{option_or}
 use Rattle.std.proofs.lemmas.List.FromFn.{length-range_with_len, get_or-range_with_len, fill_by_all}
 use Rattle.std.proofs.lemmas.Bool.Decides.{nat_tests}
 use Rattle.std.proofs.lemmas.List.Sums.{position_or_len_is}
+use Rattle.mc_base.proofs.FirstFaultLemmas.{first_fault-none, first_fault-some}
 use Rattle.mc_base.specs.FirstFault.{HasNoFault, IsFirstFault}
 use Rattle.mc_base.specs.Lines.{lines_of}
 use Rattle.mc_table8.specs.General.{CodeTable, code_weight}
 use Rattle.mc_table8.specs.GeneralFile.{IsGeneralOf, IsGeneralFault, weight_by}
 use Rattle.mc_table8.specs.LineFaults.{said_by, fault_of}
 use Rattle.mc_table8.specs.Listing.{weights_of}
-use Rattle.mc_table8.specs.Outcome.{first_fault, least_without, entry_by, all_entries, all_weights, unless_fault, table8_fault, table8_outcome, general_outcome, HasFault}
+use Rattle.mc_table8.specs.Outcome.{least_without, entry_by, all_entries, all_weights, unless_fault, table8_fault, table8_outcome, general_outcome, HasFault}
 use Rattle.mc_table8.specs.Table8.{ByteTable, byte_entry}
 use Rattle.mc_table8.specs.Table8File.{IsTable8Of, IsLeastWithout, IsTable8Fault}
 use Rattle.mc_table8.specs.declared.fault.TableFault.{TableFault}
 use Rattle.mc_table8.specs.declared.fault.TableFault.TheVariants.{BadLine, Repeated, Missing, NoMemory}
 use Rattle.mc_table8.specs.declared.format.Format.TheVariants.{Bytes, Codes}
 use Rattle.mc_table8.specs.declared.weight_line.WeightLine.{WeightLine}
-
-some-injective : {L : Type 0} (x y : L) → Some x ≡ Some y → x ≡ y
-some-injective x y e = cc
-
--- Lines without a fault have no first one.
-pub first_fault-none : {L F : Type 0} (fault_of : List L → L → Option F) (lines : List L) → HasNoFault fault_of lines → first_fault fault_of lines ≡ None
-first_fault-none fault_of [] h = refl
-first_fault-none fault_of (line ∷ lines) h =
-    ap (λ o. option_or o (first_fault (λ before. fault_of (line ∷ before)) lines)) (h 0 line refl)
-    ∙ first_fault-none (λ before. fault_of (line ∷ before)) lines (λ k next e. h (suc k) next e)
-
-first_fault-at : {L F : Type 0} (fault_of : List L → L → Option F) (lines : List L) (k : ℕ) (line : L) (fault : F) →
-    slice_get lines k ≡ Some line → HasNoFault fault_of (take k lines) → fault_of (take k lines) line ≡ Some fault → first_fault fault_of lines ≡ Some fault
-first_fault-at fault_of [] k line fault e before here = absurd cc
-first_fault-at fault_of (first ∷ lines) zero line fault e before here =
-    ap (λ o. option_or o (first_fault (λ before. fault_of (first ∷ before)) lines))
-    (ap (fault_of []) (some-injective first line e) ∙ here)
-first_fault-at fault_of (first ∷ lines) (suc k) line fault e before here =
-    ap (λ o. option_or o (first_fault (λ before. fault_of (first ∷ before)) lines)) (before 0 first refl)
-    ∙ first_fault-at (λ before. fault_of (first ∷ before)) lines k line fault e (λ j next g. before (suc j) next g) here
-
--- The first fault of lines is the one of the first line that has one.
-pub first_fault-some : {L F : Type 0} (fault_of : List L → L → Option F) (lines : List L) (fault : F) → IsFirstFault fault_of lines fault → first_fault fault_of lines ≡ Some fault
-first_fault-some fault_of lines fault (k, line, e, before, here) = first_fault-at fault_of lines k line fault e before here
 
 without : (said : List WeightLine) → ℕ → Bool
 without said byte = is_none (weights_of said byte)

@@ -1,11 +1,13 @@
 -- What lines list, held as one cell for each code.
-use Rattle.std.specs.Prelude.{◌≡◌, ◌≢◌, ℕ, ◌+◌, ◌≤◌, ◌<◌, ⊤, Bool, IsTrue, List, length, slice_index_or, Option, Some, None, if◌then◌else◌}
+use Rattle.std.specs.Prelude.{◌≡◌, ◌≢◌, ℕ, ◌+◌, ◌≤◌, ◌<◌, ⊤, Bool, IsTrue, List, length}
+use Rattle.std.specs.Prelude.{slice_index_or, Option, Some, None, if◌then◌else◌}
 use Rattle.std.specs.Option.{option_or, option_map_or}
 use Rattle.mc_table8.specs.Runs.{lists_code, weight_in}
 use Rattle.mc_table8.specs.Table8.{byte_entry}
 use Rattle.mc_table8.specs.Listing.{Cell, listed_weights, has_rest}
 use Rattle.mc_table8.specs.declared.fault.TableFault.{TableFault}
-use Rattle.mc_table8.specs.declared.fault.TableFault.TheVariants.{BadLine, Repeated, Missing, NoMemory}
+use Rattle.mc_table8.specs.declared.fault.TableFault.TheVariants.{BadLine, Repeated, Missing}
+use Rattle.mc_table8.specs.declared.fault.TableFault.TheVariants.{NoMemory}
 use Rattle.mc_table8.specs.declared.run.Run.{Run}
 use Rattle.mc_table8.specs.declared.weight_line.WeightLine.{WeightLine}
 
@@ -23,7 +25,8 @@ pub record IsFilled (run : Run) (second : Option ℕ) (before after : List Cell)
   pub were_empty : (code : ℕ) → IsTrue (lists_code run code) →
       slice_index_or before code None ≡ None
   pub each_cell : (code : ℕ) → slice_index_or after code None ≡
-      (if lists_code run code then Some (weight_in run code, second) else slice_index_or before code None)
+      (if lists_code run code then Some (weight_in run code, second)
+      else slice_index_or before code None)
 
 -- Some cell of a run was filled.
 abbrev pub IsTaken : Run → List Cell → Type 0

@@ -1,10 +1,12 @@
 -- The fields of a line of weights: words, signs, hexadecimal numbers and ranges of them.
-use Rattle.std.specs.Prelude.{ℕ, Bool, ◌==◌, ◌&&◌, nat_le, List, ◌∷◌, length, take, drop, codes, position, Option, Some, None, option_map, if◌then◌else◌}
+use Rattle.std.specs.Prelude.{ℕ, Bool, ◌==◌, ◌&&◌, nat_le, List, ◌∷◌, length, take, drop, codes}
+use Rattle.std.specs.Prelude.{position, Option, Some, None, option_map, if◌then◌else◌}
 use Rattle.std.specs.Str.{bytes_eq}
 use Rattle.std.specs.Option.{option_and_then, option_map_or}
 use Rattle.mc_base.specs.Hex.{hex_number_of}
 use Rattle.mc_table8.specs.declared.field.Field.{Field}
-use Rattle.mc_table8.specs.declared.field.Field.TheVariants.{DefaultWord, Equals, AtSign, Number, Range, Other}
+use Rattle.mc_table8.specs.declared.field.Field.TheVariants.{DefaultWord, Equals, AtSign, Number}
+use Rattle.mc_table8.specs.declared.field.Field.TheVariants.{Range, Other}
 
 -- the number of hexadecimal digits, of which there are at most so many
 abbrev pub number_of : ℕ → List ℕ → Option ℕ

@@ -7,7 +7,8 @@ use Rattle.mc_table8.specs.Listing.{listed_weights}
 use Rattle.mc_table8.specs.LineFaults.{said_by, fault_of}
 use Rattle.mc_table8.specs.declared.format.Format.TheVariants.{Codes}
 use Rattle.mc_table8.specs.declared.fault.TableFault.{TableFault}
-use Rattle.mc_table8.specs.declared.fault.TableFault.TheVariants.{BadLine, Repeated, Missing, NoMemory}
+use Rattle.mc_table8.specs.declared.fault.TableFault.TheVariants.{BadLine, Repeated, Missing}
+use Rattle.mc_table8.specs.declared.fault.TableFault.TheVariants.{NoMemory}
 use Rattle.mc_table8.specs.declared.weight_line.WeightLine.{WeightLine}
 
 -- the weight of a code point: that of the line that lists it, else the code point itself

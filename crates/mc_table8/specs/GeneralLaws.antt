@@ -1,5 +1,6 @@
 -- The general collations keep the laws.
-use Rattle.std.proofs.Common.{ℕ, ◌+◌, ◌≤◌, List, [], ◌∷◌, map, length, take, drop, append-nil, refl, sym, inl, arith}
+use Rattle.std.proofs.Common.{ℕ, ◌+◌, ◌≤◌, List, [], ◌∷◌, map, length, take, drop, append-nil, refl}
+use Rattle.std.proofs.Common.{sym, inl, arith}
 use Rattle.std.specs.List.{All}
 use Rattle.std.proofs.lemmas.List.Elements.{All-nil, All-cons}
 use Rattle.mc_charset.specs.declared.charset.Charset.{Charset}
@@ -25,7 +26,8 @@ weight_fits : (set : Charset) (table : CodeTable) (number : ℕ) → number ≤ 
 weight_fits set table number less = (omega arith, omega arith, omega arith, omega arith)
 
 bounds : (set : Charset) (table : CodeTable) (codes : List ℕ) →
-    All (IsWeight (general_meaning set table)) (map (λ code. code_weight table.weights code + 1) codes)
+    All (IsWeight (general_meaning set table))
+    (map (λ code. code_weight table.weights code + 1) codes)
 bounds set table [] = All-nil (IsWeight (general_meaning set table))
 bounds set table (c ∷ cs) =
     All-cons (IsWeight (general_meaning set table)) (code_weight table.weights c + 1) (map

@@ -7,7 +7,8 @@ use Rattle.mc_table8.specs.WeightLines.{line_of}
 use Rattle.mc_table8.specs.declared.format.Format.{Format}
 use Rattle.mc_table8.specs.declared.weight_line.WeightLine.{WeightLine}
 use Rattle.mc_table8.specs.declared.fault.TableFault.{TableFault}
-use Rattle.mc_table8.specs.declared.fault.TableFault.TheVariants.{BadLine, Repeated, Missing, NoMemory}
+use Rattle.mc_table8.specs.declared.fault.TableFault.TheVariants.{BadLine, Repeated, Missing}
+use Rattle.mc_table8.specs.declared.fault.TableFault.TheVariants.{NoMemory}
 
 -- what numbered lines say, those left out that are bad
 abbrev pub said_by : Format → List (ℕ × List ℕ) → List WeightLine

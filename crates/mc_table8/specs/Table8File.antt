@@ -6,7 +6,8 @@ use Rattle.mc_table8.specs.Listing.{weights_of}
 use Rattle.mc_table8.specs.LineFaults.{said_by, fault_of}
 use Rattle.mc_table8.specs.declared.format.Format.TheVariants.{Bytes}
 use Rattle.mc_table8.specs.declared.fault.TableFault.{TableFault}
-use Rattle.mc_table8.specs.declared.fault.TableFault.TheVariants.{BadLine, Repeated, Missing, NoMemory}
+use Rattle.mc_table8.specs.declared.fault.TableFault.TheVariants.{BadLine, Repeated, Missing}
+use Rattle.mc_table8.specs.declared.fault.TableFault.TheVariants.{NoMemory}
 use Rattle.mc_table8.specs.declared.weight_line.WeightLine.{WeightLine}
 
 -- No line has a fault, and each byte's entry is what the lines say: the weights of the line that

@@ -1,18 +1,22 @@
 -- The table8 collations keep the laws.
-use Rattle.std.proofs.Common.{◌≡◌, ◌⊎◌, ℕ, zero, suc, ◌+◌, ◌<◌, ◌≤◌, true, List, [], ◌∷◌, ◌++◌, Option, Some, None, length, take, drop, append-nil, length-append, refl, sym, ap, ◌∙◌, inl, inr, arith}
+use Rattle.std.proofs.Common.{◌≡◌, ◌⊎◌, ℕ, zero, suc, ◌+◌, ◌<◌, ◌≤◌, true, List, [], ◌∷◌, ◌++◌}
+use Rattle.std.proofs.Common.{Option, Some, None, length, take, drop, append-nil, length-append}
+use Rattle.std.proofs.Common.{refl, sym, ap, ◌∙◌, inl, inr, arith}
 use Rattle.std.specs.List.{All, flat_map}
 use Rattle.std.proofs.lemmas.List.Elements.{All-nil, All-cons, All-append}
 use Rattle.std.proofs.lemmas.Grind.{flat_map-append}
 use Rattle.std.proofs.lemmas.List.{take-append-drop}
 use Rattle.mc_charset.specs.declared.charset.Charset.{Charset}
-use Rattle.mc_charset.specs.declared.charset.Charset.TheVariants.{Latin1, Ascii, Utf8mb3, Utf8mb4, Ucs2, Utf16, Utf32, Binary}
+use Rattle.mc_charset.specs.declared.charset.Charset.TheVariants.{Latin1, Ascii, Utf8mb3, Utf8mb4}
+use Rattle.mc_charset.specs.declared.charset.Charset.TheVariants.{Ucs2, Utf16, Utf32, Binary}
 use Rattle.mc_charset.specs.Chars.{spell}
 use Rattle.mc_order.specs.Bin.{first_byte}
 use Rattle.mc_order.specs.Meaning.{AreCharsOf}
 use Rattle.mc_order.specs.Laws.{KeepsSettings, IsWeight, IsCut, HasWeightPerChar, IsLawful}
 use Rattle.mc_order.specs.WithoutContractions.{without_tails}
 use Rattle.mc_table8.specs.Table8.{ByteTable, byte_entry}
-use Rattle.mc_table8.specs.Table8Meaning.{is_byte_set, second_weight, entry_weights, char_weights, table8_meaning, ByteCollation}
+use Rattle.mc_table8.specs.Table8Meaning.{is_byte_set, second_weight, entry_weights, char_weights}
+use Rattle.mc_table8.specs.Table8Meaning.{table8_meaning, ByteCollation}
 
 none_behind : (entry : ℕ × Option ℕ) → entry.1 ≡ None → entry_weights entry ≡ (entry.0 + 1) ∷ []
 none_behind entry e = ap (λ second. (entry.0 + 1) ∷ second_weight second) e

@@ -12,7 +12,8 @@ use Rattle.mc_table8.specs.declared.weight_line.WeightLine.{WeightLine}
 
 -- A field is a range: a number, two dots and a number.
 abbrev pub IsRange : ℕ → List ℕ → ℕ → ℕ → Type 0
-IsRange digits field first last = (from : List ℕ) × (to : List ℕ) × (field ≡ from ++ (codes ".." ++ to)) ×
+IsRange digits field first last =
+    (from : List ℕ) × (to : List ℕ) × (field ≡ from ++ (codes ".." ++ to)) ×
     (number_of digits from ≡ Some first) × (number_of digits to ≡ Some last)
 
 -- A code is in both runs.

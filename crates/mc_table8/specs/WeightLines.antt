@@ -1,5 +1,6 @@
 -- The lines of weight files: MySQL 8.0 manual, 10.14.3, in the project's own line formats.
-use Rattle.std.specs.Prelude.{ℕ, Bool, true, ◌&&◌, not, nat_le, List, [], ◌∷◌, map, Option, Some, None, if◌then◌else◌}
+use Rattle.std.specs.Prelude.{ℕ, Bool, true, ◌&&◌, not, nat_le, List, [], ◌∷◌, map, Option, Some}
+use Rattle.std.specs.Prelude.{None, if◌then◌else◌}
 use Rattle.std.specs.Option.{option_and_then}
 use Rattle.mc_base.specs.Fields.{fields_of}
 use Rattle.mc_table8.specs.Formats.{digits_of, greatest_of}
@@ -8,7 +9,8 @@ use Rattle.mc_table8.specs.Runs.{run_from, run_fits, lists_code}
 use Rattle.mc_table8.specs.declared.format.Format.{Format}
 use Rattle.mc_table8.specs.declared.format.Format.TheVariants.{Bytes, Codes}
 use Rattle.mc_table8.specs.declared.field.Field.{Field}
-use Rattle.mc_table8.specs.declared.field.Field.TheVariants.{DefaultWord, Equals, AtSign, Number, Range}
+use Rattle.mc_table8.specs.declared.field.Field.TheVariants.{DefaultWord, Equals, AtSign, Number}
+use Rattle.mc_table8.specs.declared.field.Field.TheVariants.{Range}
 use Rattle.mc_table8.specs.declared.weight_line.WeightLine.{WeightLine}
 use Rattle.mc_table8.specs.declared.weight_line.WeightLine.TheVariants.{Rest, Listed}
 

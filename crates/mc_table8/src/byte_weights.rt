@@ -5,7 +5,7 @@ ghost use Rattle.std.specs.Prelude.{◌≡◌, ◌++◌, ◌≤◌, length, take
 
 use crate::Table8;
 use mc_base::{NoMemory, Weights};
-use mc_order::{Pad, WeightStream, compare_streams, put_weights};
+use mc_order::{Pad, WeightStream, compare_streams, put_weights, shared_bytes};
 use std::cmp::Ordering;
 
 /// The weights of a text of one-byte spellings, and the second weight of the byte just read.
@@ -17,7 +17,8 @@ pub(crate) struct ByteWeights<'a> {
 }
 
 impl<'a> WeightStream for ByteWeights<'a> {
-    ghost left = { λ weights. second_weight weights.second ++ bytes_weights weights.table.now.entries weights.text.now };
+    ghost left = { λ weights. second_weight weights.second
+        ++ bytes_weights weights.table.now.entries weights.text.now };
 
     fn next_weight(&mut self) -> Option<u32> {
         match self.second {
@@ -56,24 +57,36 @@ impl<'a> ByteWeights<'a> {
 /// The order of two texts by the weights of their bytes. What they have in common in front is
 /// passed over.
 pub(crate) fn compare_bytes(table: &Table8, a: &[u8], b: &[u8], space: u32) -> Ordering
-    ensures { result
-        ≡ list_order Padded space (bytes_weights table.now.entries a.now) (bytes_weights table.now.entries b.now) }
+    ensures { let weights = bytes_weights table.now.entries in
+        result ≡ list_order Padded space (weights a.now) (weights b.now) }
 {
     let start = shared_bytes(a, b);
+    compare_plain(table, &a[start..], &b[start..], space)
+}
+
+/// So, and bytes of one weight each are passed over while their weights are the same.
+fn compare_plain(table: &Table8, a: &[u8], b: &[u8], space: u32) -> Ordering
+    ensures { let weights = bytes_weights table.now.entries in
+        result ≡ list_order Padded space (weights a.now) (weights b.now) }
+{
+    let start = plain_front(table, a, b);
     let mut left = ByteWeights::new(table, &a[start..]);
     let mut right = ByteWeights::new(table, &b[start..]);
     compare_streams(&mut left, &mut right, Pad::PadSpace, space)
 }
 
-/// How many bytes two texts have in common in front.
-fn shared_bytes(a: &[u8], b: &[u8]) -> usize
+/// How many bytes of one weight each, the same in both texts, stand in front.
+#[tactic(auto, using(crate::proofs::Bytes::plain_more))]
+fn plain_front(table: &Table8, a: &[u8], b: &[u8]) -> usize
     ensures within_first { result ≤ length a.now }
     ensures within_second { result ≤ length b.now }
-    ensures same { take result a.now ≡ take result b.now }
+    ensures same { let weights = bytes_weights table.now.entries in
+        weights (take result a.now) ≡ weights (take result b.now) }
 {
     let shorter = a.len().min(b.len());
     for i in 0..shorter {
-        if a[i] != b[i] {
+        let weight = table.plain(a[i]);
+        if weight == 0 || weight != table.plain(b[i]) {
             return i;
         }
     }

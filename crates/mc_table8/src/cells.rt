@@ -1,4 +1,5 @@
-ghost use Rattle.std.specs.Prelude.{◌≡◌, ◌≢◌, ℕ, ◌+◌, ◌-◌, ◌≤◌, ◌<◌, Some, None, [], ◌∷◌, ◌++◌, List, length, not, slice_index_or, if◌then◌else◌, IfOk, IsTrue};
+ghost use Rattle.std.specs.Prelude.{◌≡◌, ◌≢◌, ℕ, ◌+◌, ◌-◌, ◌≤◌, ◌<◌, Some, None, [], ◌∷◌, ◌++◌};
+ghost use Rattle.std.specs.Prelude.{List, length, not, slice_index_or, if◌then◌else◌, IfOk, IsTrue};
 ghost use Rattle.std.specs.Bool.{OnTrue, OnFalse};
 ghost use Rattle.std.specs.List.{list_any};
 ghost use Rattle.mc_table8.specs.Cells.{IsListing, IsFilled, IsTaken};
@@ -44,7 +45,8 @@ impl Cells {
             IsListing (greatest_of format) self.old.cells.items self.old.rest lines →
             (result ≡ not (list_any (repeats line) lines)) ×
             OnTrue result
-            (IsListing (greatest_of format) self.new.cells.items self.new.rest (lines ++ line ∷ [])) }
+            (IsListing (greatest_of format) self.new.cells.items self.new.rest
+            (lines ++ line ∷ [])) }
     {
         match line {
             WeightLine::Rest => {

@@ -1,5 +1,6 @@
 ghost use Rattle.std.specs.Prelude.{◌≡◌, ◌<◌, length, position, MatchOption, IfSome};
-ghost use Rattle.mc_table8.specs.Fields.{is_dot, number_of, behind_dots, parts_of, both, range_of, number_or_range, field_of};
+ghost use Rattle.mc_table8.specs.Fields.{is_dot, number_of, behind_dots, parts_of, both, range_of};
+ghost use Rattle.mc_table8.specs.Fields.{number_or_range, field_of};
 
 use mc_base::hex_number;
 

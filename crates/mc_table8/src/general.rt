@@ -36,6 +36,7 @@ impl General {
     }
 
     /// The weight of a code point.
+    #[inline(always)]
     pub fn weight(&self, code: u32) -> u32
         ensures weight { result ≡ code_weight self.now.weights code }
         ensures fits { result ≤ 0xFFFF }

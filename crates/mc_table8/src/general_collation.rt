@@ -7,7 +7,7 @@ ghost use Rattle.std.specs.Prelude.{◌≡◌, ◌+◌, IsTrue};
 
 use crate::General;
 use mc_base::{NoMemory, Weights};
-use mc_charset::Charset;
+use mc_charset::{Charset, Encoding};
 use mc_order::{CharWeight, Collation, Pad, compare_chars, put_chars};
 use std::cmp::Ordering;
 use std::marker::Model;
@@ -54,7 +54,8 @@ impl CharWeight for GeneralCollation {
         self.charset
     }
 
-    fn weight(&self, code: u32, _spelling: &[u8]) -> u32 {
+    #[inline(always)]
+    fn weight<E: Encoding>(&self, code: u32, _spelling: &[u8]) -> u32 {
         self.table.weight(code) + 1
     }
 }
@@ -91,7 +92,7 @@ impl Collation for GeneralCollation {
     }
 
     fn same_char(&self, c: u32, d: u32) -> bool {
-        self.table.weight(c) == self.table.weight(d)
+        c == d || self.table.weight(c) == self.table.weight(d)
     }
 
     fn safe(&self, _c: u32) -> bool {

@@ -1,4 +1,5 @@
-ghost use Rattle.std.specs.Prelude.{◌≡◌, ℕ, ◌^◌, ◌≤◌, ◌<◌, None, Ok, length, slice_index_or, MatchResult, IfOk};
+ghost use Rattle.std.specs.Prelude.{◌≡◌, ℕ, ◌^◌, ◌≤◌, ◌<◌, None, Ok, length, slice_index_or};
+ghost use Rattle.std.specs.Prelude.{MatchResult, IfOk};
 ghost use Rattle.mc_base.specs.Lines.{lines_of};
 ghost use Rattle.mc_table8.specs.Cells.{IsSmall, cell_weight, HasWeights};
 ghost use Rattle.mc_table8.specs.GeneralFile.{IsGeneralOf, IsGeneralFault};
@@ -13,9 +14,9 @@ use mc_base::{List, NoMemory};
 use std::alloc::Global;
 
 /// The weights of the code points up to FFFF, as a file says them line by line: `C W` gives code
-/// point C the weight W, `C..D @ W` code point C + i the weight W + i, and a code point that no line
-/// lists has itself as its weight (MySQL 8.0 manual, 10.10.1). The first line with a fault decides;
-/// the answer is never `Missing`.
+/// point C the weight W, `C..D @ W` code point C + i the weight W + i, and a code point of no line
+/// has itself as its weight (MySQL 8.0 manual, 10.10.1). The first line with a fault decides; the
+/// answer is never `Missing`.
 pub fn read_general(alloc: Global, text: &[u8]) -> Result<General, TableFault>
     requires { length text.now < 2 ^ 32 }
     ensures lines { MatchResult result

@@ -10,8 +10,8 @@ ghost use Rattle.mc_table8.specs.declared.run.Run.{Run};
 
 /// The laws of weight files: a field is read as a range exactly where it is a number, two dots and
 /// a number; two runs overlap exactly where some code is in both; in lines without a fault every
-/// line that lists a code gives it its weights; and lines have no fault, or one first fault, so that
-/// a file has one answer.
+/// line that lists a code gives it its weights; and lines have no fault, or one first fault, so
+/// that a file has one answer.
 pub fn weight_file_laws()
     ensures range { (digits : ℕ) (field : List ℕ) (first last : ℕ) →
         (range_of digits field ≡ Some (first, last)) ↔ IsRange digits field first last }

@@ -2,14 +2,16 @@
 //! set one or two weights, `general` each code point of a Unicode set one.
 //!
 //! MySQL 8.0 manual, 10.14.3, "Adding a Simple Collation to an 8-Bit Character Set", and 10.10.1.
-//! `specs/Table8.antt` and `specs/General.antt` say what such a table is, `specs/Table8Meaning.antt`
-//! and `specs/GeneralMeaning.antt` what its collation means; `specs/WeightLines.antt` has the line
-//! forms of their files, `specs/Table8File.antt` and `specs/GeneralFile.antt` what a file says and
-//! when it is refused.
+//! `specs/Table8.antt` and `specs/General.antt` say what such a table is, and what its collation
+//! means `specs/Table8Meaning.antt` and `specs/GeneralMeaning.antt`; `specs/WeightLines.antt` has
+//! the line forms of their files, `specs/Table8File.antt` and `specs/GeneralFile.antt` what a file
+//! says and when it is refused. `read_table8(alloc, b"00..FF =\n")` is the table of the bytes
+//! themselves.
 //!
 //! Read `table8` and `general`, the tables; then `byte_of`, `byte_weights` and `table8_collation`,
-//! and `general_collation`, which compare by them; then `field`, `weight_line`, `cells` and
-//! `listing`, by which `table8_reader` and `general_reader` read a file.
+//! and `general_collation`, which compare by them; then `field`, `run`, `weight_line` (with
+//! `table8_line` and `general_line`), `cells` and `listing`, by which `table8_reader` and
+//! `general_reader` read a file.
 #![tactic(auto)]
 
 mod byte_of;

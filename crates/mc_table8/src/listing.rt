@@ -1,4 +1,5 @@
-ghost use Rattle.std.specs.Prelude.{◌≡◌, ℕ, ◌+◌, ◌^◌, ◌<◌, Some, None, ◌∷◌, [], ◌++◌, List, length, MatchResult};
+ghost use Rattle.std.specs.Prelude.{◌≡◌, ℕ, ◌+◌, ◌^◌, ◌<◌, Some, None, ◌∷◌, [], ◌++◌, List, length};
+ghost use Rattle.std.specs.Prelude.{MatchResult};
 ghost use Rattle.mc_base.specs.FirstFault.{HasNoFault};
 ghost use Rattle.mc_base.specs.Lines.{lines_of};
 ghost use Rattle.mc_table8.specs.Cells.{IsListing};

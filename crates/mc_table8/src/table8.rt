@@ -1,4 +1,4 @@
-ghost use Rattle.mc_table8.specs.Table8.{IsByteEntry, byte_entry};
+ghost use Rattle.mc_table8.specs.Table8.{ArePlain, IsByteEntry, byte_entry, plain_weight};
 ghost use Rattle.std.specs.Prelude.{◌≡◌, ℕ, ◌<◌, Some, None, length};
 
 use mc_base::List;
@@ -9,9 +9,11 @@ use std::marker::Model;
 #[derive(Debug, Drop)]
 pub struct Table8 {
     entries: List<(u8, Option<u8>)>,
+    plain: [u16; 256],
     ghost all_bytes: { length entries ≡ 256 },
     ghost fits: { (byte : ℕ) → IsByteEntry (byte_entry entries byte) },
     ghost one_for_space: { (byte_entry entries 0x20).1 ≡ None },
+    ghost are_plain: { ArePlain plain entries },
 }
 
 impl Model for Table8 {
@@ -35,7 +37,8 @@ impl Table8 {
         ensures { result.entries ≡ entries }
     {
         each_fits(entries.as_slice());
-        Table8 { entries }
+        let plain = plain_weights(entries.as_slice());
+        Table8 { entries, plain }
     }
 
     /// The weight of a byte, and the second one where it has two.
@@ -43,6 +46,36 @@ impl Table8 {
         ensures { result ≡ byte_entry self.now.entries byte }
     {
         self.entries.as_slice()[usize::from(byte)]
+    }
+
+    /// The weight plus 1 of a byte that has one weight, else 0.
+    #[inline(always)]
+    pub(crate) fn plain(&self, byte: u8) -> u16
+        ensures { result ≡ plain_weight (byte_entry self.now.entries byte) }
+    {
+        self.plain[usize::from(byte)]
+    }
+}
+
+/// The plain weight of each byte.
+fn plain_weights(entries: &[(u8, Option<u8>)]) -> [u16; 256]
+    requires { length entries.now ≡ 256 }
+    ensures { ArePlain result entries.now }
+{
+    let mut plain = [0; 256];
+    for byte in 0..256 {
+        plain[byte] = plain_weight(entries[byte]);
+    }
+    plain
+}
+
+/// The weight plus 1 of a byte that has one weight, else 0.
+fn plain_weight(entry: (u8, Option<u8>)) -> u16
+    ensures { result ≡ plain_weight entry }
+{
+    match entry {
+        (first, None) => u16::from(first) + 1,
+        (_, Some(_)) => 0,
     }
 }
 

@@ -5,7 +5,7 @@ ghost use Rattle.mc_table8.specs.Table8Meaning.{is_byte_set, table8_meaning};
 ghost use Rattle.std.specs.Prelude.{◌≡◌, IsTrue, take};
 
 use crate::Table8;
-use crate::byte_of::byte_of;
+use crate::byte_of::byte_in;
 use crate::byte_weights::{compare_bytes, put_bytes};
 use mc_base::{NoMemory, Weights};
 use mc_charset::{Charset, chars_law};
@@ -76,8 +76,11 @@ impl Collation for Table8Collation {
     }
 
     fn same_char(&self, c: u32, d: u32) -> bool {
-        let left = byte_of(self.charset, c);
-        let right = byte_of(self.charset, d);
+        if c == d {
+            return true;
+        }
+        let left = byte_in(self.charset, c);
+        let right = byte_in(self.charset, d);
         self.table.weights(left) == self.table.weights(right)
     }
 

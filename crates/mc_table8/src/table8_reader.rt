@@ -1,4 +1,5 @@
-ghost use Rattle.std.specs.Prelude.{◌≡◌, ℕ, ◌^◌, ◌≤◌, ◌<◌, None, Ok, length, slice_index_or, MatchResult};
+ghost use Rattle.std.specs.Prelude.{◌≡◌, ℕ, ◌^◌, ◌≤◌, ◌<◌, None, Ok, length, slice_index_or};
+ghost use Rattle.std.specs.Prelude.{MatchResult};
 ghost use Rattle.mc_base.specs.Lines.{lines_of};
 ghost use Rattle.mc_table8.specs.Cells.{IsSmall, cell_weights, HasEntries, IsEmptyFault};
 ghost use Rattle.mc_table8.specs.Outcome.{table8_outcome, HasFault};

@@ -1,5 +1,6 @@
 ghost use Rattle.std.specs.Prelude.{◌≡◌, IfSome, IsTrue};
-ghost use Rattle.mc_table8.specs.WeightLines.{is_sound, form_of, form_of_two, form_of_three, line_of};
+ghost use Rattle.mc_table8.specs.WeightLines.{is_sound, form_of, form_of_two, form_of_three};
+ghost use Rattle.mc_table8.specs.WeightLines.{line_of};
 
 use crate::field::{Field, kind_of};
 use crate::format::Format;

@@ -5,11 +5,6 @@ use Rattle.mc_order.proofs.char_weights.compare_chars.Goals as goal
 pub returns : goal.returns
 returns g c =
     let shared = rw c.set.ensures at c.shared_start-start.ensures.shared in
-    let found = rw (
-      c.new-left.ensures.same,
-      c.new-left.ensures.whole,
-      c.new-right.ensures.same,
-      c.new-right.ensures.whole,
-    ) at c.compare_streams.ensures in
-    found ∙ behind_shared (g.W.CharWeight.set c.args.weigher.now) c.args.pad c.args.space
+    c.compare_from.ensures
+    ∙ behind_shared (g.W.CharWeight.set c.args.weigher.now) c.args.pad c.args.space
     (g.W.CharWeight.weight c.args.weigher.now) c.args.a.now c.args.b.now _ shared

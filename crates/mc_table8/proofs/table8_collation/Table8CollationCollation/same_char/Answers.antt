@@ -12,5 +12,5 @@ returns c =
       c.eq.ensures,
     )
     (same_char_is c.self.inside.charset c.self.inside.table.entries c.args.c c.args.d
-    c.byte_of-left.result c.byte_of-right.result c.weights.result c.weights-2.result
-    c.byte_of-left.ensures c.byte_of-right.ensures c.weights.ensures c.weights-2.ensures)
+    c.byte_in-left.result c.byte_in-right.result c.weights.result c.weights-2.result
+    c.byte_in-left.ensures c.byte_in-right.ensures c.weights.ensures c.weights-2.ensures)
