@@ -6,15 +6,15 @@ use Rattle.mc_base.specs.declared.file.FileFault.{FileFault}
 use Rattle.mc_base.specs.declared.file.FileFault.TheVariants.{Refused, Fault, NoMemory}
 use Rattle.mc_base.specs.declared.refusal.FileRefusal.{FileRefusal}
 
--- The greatest length of a file, in bytes.
+-- the greatest length of a file, in bytes
 abbrev pub greatest_file : ℕ
 greatest_file = 16777216
 
--- The refusal of the file of a name, by its fault and where that is.
+-- the refusal of the file of a name, by its fault and where that is
 abbrev pub file_refusal : List ℕ → List ℕ → ℕ → FileRefusal
 file_refusal name fault at = record { name = name; fault = fault; at = at }
 
--- What a file has, where it is there and at most 16,777,216 bytes long.
+-- what a file has, where it is there and at most 16,777,216 bytes long
 abbrev pub content_outcome : List ℕ → Option (List ℕ) → Result (List ℕ) FileRefusal
 content_outcome name None = Err (file_refusal name (codes "Absent") 0)
 content_outcome name (Some text) =
@@ -22,7 +22,7 @@ content_outcome name (Some text) =
     then Err (file_refusal name (codes "TooLong") greatest_file)
     else Ok text
 
--- The content of the file of a name, or its refusal.
+-- the content of the file of a name, or its refusal
 abbrev pub file_outcome : (List ℕ → Option (List ℕ)) → List ℕ → Result (List ℕ) FileRefusal
 file_outcome files name = content_outcome name (files name)
 

@@ -16,7 +16,7 @@ IsFirstFault {L} fault_of lines fault =
     (k : ℕ) × (line : L) × (slice_get lines k ≡ Some line) × HasNoFault fault_of (take k lines) ×
     (fault_of (take k lines) line ≡ Some fault)
 
--- The first fault of lines, each of them judged beside the lines before it.
+-- the first fault of lines, each of them judged beside the lines before it
 abbrev pub first_fault : {L F : Type 0} → (List L → L → Option F) → List L → Option F
 first_fault fault_of [] = None
 first_fault fault_of (line ∷ lines) =

@@ -1,12 +1,13 @@
 //! What every crate of the engine stands on: owned lists that contracts see as lists, files and
-//! sinks with their faults, texts cut into lines and fields, and the refusals that all readers give.
+//! sinks with their faults, texts cut into lines and fields, and the refusals that all readers
+//! give.
 //!
-//! Read the modules in this order. Memory: `list`, `boxed`, `no_memory`. The outside, where a device
-//! or memory may fail: `outside` (the traits), `real_files` and `real_sink` (the operating system;
-//! POSIX.1, open, read and write), `fault_plan`, `mem_files` and `mem_sink` (in memory, failing as
-//! planned). Files as texts: `whole` (under any limit) and `file` (the engine's limit, with the
-//! refusals of a file). Lines of settings: `blanks`, `places`, `lines`, `fields`, `hex`. Answers:
-//! `span` (a place in a script), `refusal`, `steps` (a counter).
+//! Read the modules in this order. Memory: `list`, `boxed`, `no_memory`. The outside, where a
+//! device or memory may fail: `outside` (the traits), `real_files` and `real_sink` (the operating
+//! system; POSIX.1, open, read and write), `fault_plan`, `mem_files` and `mem_sink` (in memory,
+//! failing as planned). Files as texts: `whole` (under any limit) and `file` (the engine's limit,
+//! with the refusals of a file). Lines of settings: `blanks`, `places`, `lines`, `fields`, `hex`.
+//! Answers: `span` (a place in a script), `refusal`, `steps` (a counter).
 //!
 //! `specs/FirstFault` says which fault of many lines is told, and `specs/Results` what comes of a
 //! value or of the error in its place.

@@ -52,7 +52,8 @@ impl Model for MemFiles {
 
     ghost use Rattle.mc_base.specs.Cursor.{rest_at, IsWithin};
 
-    ghost view = { λ m. record { files = m.files; plan = m.plan; rest = rest_at m.files m.cursor } };
+    ghost view = { λ m.
+        record { files = m.files; plan = m.plan; rest = rest_at m.files m.cursor } };
 
     ghost invariant = { λ m. IsWithin m.files m.cursor };
 }
@@ -62,7 +63,11 @@ impl MemFiles {
     /// opens and reads are counted together, from 0.
     pub fn new(files: List<(Text, Text)>, fail: List<u64>) -> MemFiles
         requires { AllPairs (λ a b. a.0 ≢ b.0) files }
-        ensures { result ≡ record { files = files; plan = record { fail = fail; calls = 0; faults = 0 }; rest = None } }
+        ensures { result ≡ record {
+          files = files;
+          plan = record { fail = fail; calls = 0; faults = 0 };
+          rest = None;
+        } }
     {
         MemFiles {
             files,
@@ -112,7 +117,8 @@ impl Files for MemFiles {
         ensures opened { IsTrue (is_some self.new.rest) }
         ensures told { ReadTells result buf.new (rest_told self.old.rest)
             (rest_told self.new.rest) }
-        ensures cause { ReadCause result (length buf.old) self.old.plan.faults self.new.plan.faults }
+        ensures cause { ReadCause result (length buf.old) self.old.plan.faults
+            self.new.plan.faults }
         ensures planned { self.new.plan ≡ counted self.old.plan }
         ensures failing { ReadsAsPlanned result (fails_now self.old.plan) }
     {

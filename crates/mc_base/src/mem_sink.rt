@@ -26,7 +26,10 @@ impl Model for MemSink {
 impl MemSink {
     /// A sink that holds nothing. The calls of the numbers in `fail` answer Failed, counted from 0.
     pub fn new(alloc: Global, fail: List<u64>) -> MemSink
-        ensures { result ≡ record { written = []; plan = record { fail = fail; calls = 0; faults = 0 } } }
+        ensures { result ≡ record {
+          written = [];
+          plan = record { fail = fail; calls = 0; faults = 0 };
+        } }
     {
         MemSink {
             written: Text::new(alloc),

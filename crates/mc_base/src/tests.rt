@@ -146,7 +146,8 @@ fn lines_and_fields_are_cut(rt: HostRuntime) {
     assert!(rt; reader.next_line().is_none(), "the end");
     let field = next_field(b" a  b");
     assert!(rt;
-        matches!(field, Some((first, rest)) if first == b"a".as_slice() && rest == b"  b".as_slice())
+        matches!(field, Some((first, rest))
+            if first == b"a".as_slice() && rest == b"  b".as_slice())
     );
     assert!(rt;
         hex_number(b"10fFfF") == Some(1_114_111),

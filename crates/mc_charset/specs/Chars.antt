@@ -7,11 +7,11 @@ use Rattle.mc_charset.specs.declared.charset.Charset.{Charset}
 use Rattle.mc_charset.specs.Rows.{spelling_in, first_in}
 use Rattle.mc_charset.specs.Tables.{rows}
 
--- The one spelling of a code point in a set, where the set has it.
+-- the one spelling of a code point in a set, where the set has it
 unfoldable pub spell : Charset → ℕ → Option (List ℕ)
 spell set code = spelling_in (rows set) code
 
--- The spellings of these code points, joined, where the set has them all.
+-- the spellings of these code points, joined, where the set has them all
 unfoldable pub spell_all : Charset → List ℕ → Option (List ℕ)
 spell_all set [] = Some []
 spell_all set (code ∷ codes) =
@@ -26,7 +26,7 @@ Spells set codes text = spell_all set codes ≡ Some text
 abbrev pub IsWellFormed : Charset → List ℕ → Type 0
 IsWellFormed set text = (codes : List ℕ) × Spells set codes text
 
--- The characters of what is behind the first `skipped` bytes.
+-- the characters of what is behind the first `skipped` bytes
 unfoldable pub chars_behind : Charset → ℕ → List ℕ → List ℕ
 chars_behind set skipped [] = []
 chars_behind set (suc skipped) (b ∷ bytes) = chars_behind set skipped bytes
@@ -35,8 +35,8 @@ chars_behind set zero (b ∷ bytes) = elim (first_in (rows set) (b ∷ bytes)) [
   | Some found ↦ found.0 ∷ chars_behind set (found.1 - 1) bytes
 ]
 
--- The characters of a text: those that spell it where it is well formed (the law of `chars` says
--- so), else those before the first place where no spelling begins.
+-- the characters of a text: those that spell it where it is well formed (the law of `chars` says
+-- so), else those before the first place where no spelling begins
 unfoldable pub chars : Charset → List ℕ → List ℕ
 chars set text = chars_behind set 0 text
 

@@ -8,7 +8,7 @@ use Rattle.mc_charset.specs.declared.charset.Charset.{Charset}
 use Rattle.mc_charset.specs.declared.charset.Charset.TheVariants.{Latin1, Ascii, Utf8mb3, Utf8mb4}
 use Rattle.mc_charset.specs.declared.charset.Charset.TheVariants.{Ucs2, Utf16, Utf32, Binary}
 
--- The name of a set.
+-- the name of a set
 abbrev pub name_of : Charset → List ℕ
 name_of Latin1 = codes "latin1"
 name_of Ascii = codes "ascii"
@@ -19,18 +19,18 @@ name_of Utf16 = codes "utf16"
 name_of Utf32 = codes "utf32"
 name_of Binary = codes "binary"
 
--- The names of the sets, in lower case, each with its set; `utf8` is another one of utf8mb3.
+-- the names of the sets, in lower case, each with its set; `utf8` is another one of utf8mb3
 abbrev pub named_sets : List (List ℕ × Charset)
 named_sets =
     (name_of Latin1, Latin1) ∷ (name_of Ascii, Ascii) ∷ (name_of Utf8mb3, Utf8mb3)
     ∷ (name_of Utf8mb4, Utf8mb4) ∷ (name_of Ucs2, Ucs2) ∷ (name_of Utf16, Utf16)
     ∷ (name_of Utf32, Utf32) ∷ (name_of Binary, Binary) ∷ (codes "utf8", Utf8mb3) ∷ []
 
--- The names of the sets, in lower case.
+-- the names of the sets, in lower case
 abbrev pub set_names : List (List ℕ)
 set_names = map (λ named. named.0) named_sets
 
--- The set of a name, the case of A to Z ignored.
+-- the set of a name, the case of A to Z ignored
 unfoldable pub set_named : List ℕ → Option Charset
 set_named name =
     option_map (λ named. named.1)
@@ -40,7 +40,7 @@ set_named name =
 unfoldable pub same_set : Charset → Charset → Bool
 same_set set other = bytes_eq (name_of set) (name_of other)
 
--- The sets that have Unicode's characters and no others.
+-- the sets that have Unicode's characters and no others
 abbrev pub is_unicode_set : Charset → Bool
 is_unicode_set Latin1 = false
 is_unicode_set Ascii = false
@@ -51,13 +51,13 @@ is_unicode_set Ucs2 = true
 is_unicode_set Utf16 = true
 is_unicode_set Utf32 = true
 
--- The names of the built-in collations, in the order of their numbers from 0 on.
+-- the names of the built-in collations, in the order of their numbers from 0 on
 abbrev pub built_in_names : List (List ℕ)
 built_in_names = codes "binary" ∷ codes "latin1_bin" ∷ codes "ascii_bin" ∷ codes "utf8mb3_bin"
     ∷ codes "utf8mb4_bin"
     ∷ codes "ucs2_bin" ∷ codes "utf16_bin" ∷ codes "utf32_bin" ∷ codes "utf8mb4_0900_bin" ∷ []
 
--- The name of a set's binary collation: `binary` for binary, else the set's name with `_bin`.
+-- the name of a set's binary collation: `binary` for binary, else the set's name with `_bin`
 abbrev pub bin_name : Charset → List ℕ
 bin_name Binary = codes "binary"
 bin_name set = name_of set ++ codes "_bin"

@@ -25,7 +25,7 @@ IsNextChar set text (Char code len) = IsFirst set text code len
 IsNextChar set text End = text ≡ []
 IsNextChar set text Bad = (text ≢ []) × BeginsBadly set text
 
--- The answer against the characters of the whole text.
+-- the answer against the characters of the whole text
 abbrev pub HeadsChars : Charset → List ℕ → CharAt → Type 0
 HeadsChars set text (Char code len) =
     (chars set text ≡ code ∷ chars set (drop len text))

@@ -25,7 +25,7 @@ utf8_short_rows =
     ∷ from_code 0xE000 (from_to 0xEE 0xEF ∷ from_to 0x80 0xBF ∷ from_to 0x80 0xBF ∷ [])
     ∷ []
 
--- The bytes behind the first one in UTF-8.
+-- the bytes behind the first one in UTF-8
 abbrev pub behind : Range
 behind = from_to 0x80 0xBF
 
@@ -37,7 +37,7 @@ utf8_long_rows =
     ∷ from_code 0x100000 (only 0xF4 ∷ from_to 0x80 0x8F ∷ behind ∷ behind ∷ [])
     ∷ []
 
--- Two bytes, the greater one first: the code points up to FFFF without the surrogates D800 to DFFF.
+-- two bytes, the greater one first: the code points up to FFFF without the surrogates D800 to DFFF
 abbrev pub two_byte_rows : List Row
 two_byte_rows =
     from_code 0x0000 (from_to 0x00 0xD7 ∷ from_to 0x00 0xFF ∷ [])
@@ -51,7 +51,7 @@ surrogate_pair_rows =
     (from_to 0xD8 0xDB ∷ from_to 0x00 0xFF ∷ from_to 0xDC 0xDF ∷ from_to 0x00 0xFF ∷ [])
     ∷ []
 
--- Four bytes, the greatest one first: the code points up to 10FFFF without the surrogates.
+-- four bytes, the greatest one first: the code points up to 10FFFF without the surrogates
 abbrev pub four_byte_rows : List Row
 four_byte_rows =
     from_code 0x0000 (only 0x00 ∷ only 0x00 ∷ from_to 0x00 0xD7 ∷ from_to 0x00 0xFF ∷ [])
@@ -59,7 +59,7 @@ four_byte_rows =
     ∷ from_code 0x10000 (only 0x00 ∷ from_to 0x01 0x10 ∷ from_to 0x00 0xFF ∷ from_to 0x00 0xFF ∷ [])
     ∷ []
 
--- One byte of its own for a code point.
+-- one byte of its own for a code point
 abbrev pub byte : ℕ → ℕ → Row
 byte b code = from_code code (only b ∷ [])
 
@@ -76,7 +76,7 @@ latin1_rows_80_to_9f =
     ∷ byte 0x9C 0x0153 ∷ byte 0x9D 0x009D ∷ byte 0x9E 0x017E ∷ byte 0x9F 0x0178
     ∷ []
 
--- The rows of a character set: MySQL 8.0 manual, 10.9 and 10.10.
+-- the rows of a character set: MySQL 8.0 manual, 10.9 and 10.10
 abbrev pub rows : Charset → List Row
 rows Latin1 =
     from_code 0x00 (from_to 0x00 0x7F ∷ []) ∷ from_code 0xA0 (from_to 0xA0 0xFF ∷ [])

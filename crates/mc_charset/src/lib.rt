@@ -1,11 +1,11 @@
-//! The eight character sets of MySQL 8.0 (its manual, 10.9 and 10.10): which bytes spell a character,
-//! and which characters a text has.
+//! The eight character sets of MySQL 8.0 (its manual, 10.9 and 10.10): which bytes spell a
+//! character, and which characters a text has.
 //!
 //! `specs/Tables` has the rows of each set, in the form of the Unicode Standard's Table 3-7, and
-//! `specs/Chars` what a text's characters are by them. Read the modules in this order: `charset` and
-//! `names` (the sets), `char_at` and `spelling`, then one module for each form of spelling, `bytes`,
-//! `latin1`, `utf8` and `wide`; `front` and `put` (one character of any set), `encoding` and
-//! `encodings` (sets as types, for loops that ask once for the set), `count` and `well_formed`
+//! `specs/Chars` what a text's characters are by them. Read the modules in this order: `charset`
+//! and `names` (the sets), `char_at` and `spelling`, then one module for each form of spelling,
+//! `bytes`, `latin1`, `utf8` and `wide`; `front` and `put` (one character of any set), `encoding`
+//! and `encodings` (sets as types, for loops that ask once for the set), `count` and `well_formed`
 //! (whole texts), and `laws`, which other crates prove with.
 #![tactic(auto)]
 
@@ -24,6 +24,8 @@ mod put;
 mod spelling;
 #[cfg(test)]
 mod tests;
+#[cfg(test)]
+mod text_tests;
 mod utf8;
 mod well_formed;
 mod wide;

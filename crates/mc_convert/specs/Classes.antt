@@ -10,7 +10,7 @@ use Rattle.mc_convert.specs.declared.repertoire.Repertoire.{Repertoire}
 use Rattle.mc_convert.specs.declared.repertoire.Repertoire.TheVariants.{Ascii, Latin1, Bmp, Unicode}
 use Rattle.mc_convert.specs.declared.repertoire.Repertoire.TheVariants.{Bytes}
 
--- The place of a class in the chain.
+-- the place of a class in the chain
 abbrev pub rank : Repertoire → ℕ
 rank Ascii = 0
 rank Latin1 = 1
@@ -39,12 +39,12 @@ abbrev pub HasAll : Charset → Repertoire → List ℕ → Type 0
 HasAll set class [] = Unit
 HasAll set class (code ∷ codes) = HasIn set class code × HasAll set class codes
 
--- The repertoire of a text: the least class that has each of its characters.
+-- the repertoire of a text: the least class that has each of its characters
 pub record IsRepertoire (set : Charset) (text : List ℕ) (class : Repertoire) : Type 0 where
   pub has_all : HasAll set class (chars set text)
   pub least : (other : Repertoire) → HasAll set other (chars set text) → rank class ≤ rank other
 
--- The cap of a set: the class of all its characters.
+-- the cap of a set: the class of all its characters
 abbrev pub cap_of : Charset → Repertoire
 cap_of SetAscii = Ascii
 cap_of SetLatin1 = Latin1

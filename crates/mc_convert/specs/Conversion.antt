@@ -18,21 +18,21 @@ is_binary set = false
 abbrev pub fits : Charset → Charset → ℕ → Bool
 fits from to code = (not (is_binary from) || nat_lt code 0x80) && is_some (spell to code)
 
--- The character itself where `to` has it, else `?`.
+-- the character itself where `to` has it, else `?`
 abbrev pub stand_in : Charset → Charset → ℕ → ℕ
 stand_in from to code = if fits from to code then code else 0x3F
 
--- The converted text: to binary the bytes stay; to other sets each character is itself or `?`.
+-- the converted text: to binary the bytes stay; to other sets each character is itself or `?`
 abbrev pub IsConverted : Charset → Charset → List ℕ → List ℕ → Type 0
 IsConverted from to text converted =
     MatchBool (is_binary to) (converted ≡ text)
     (Spells to (map (stand_in from to) (chars from text)) converted)
 
--- The spelling of a character in a set that has it.
+-- the spelling of a character in a set that has it
 abbrev pub spelling : Charset → ℕ → List ℕ
 spelling set code = unwrap_or (spell set code) []
 
--- The converted text as a function: the spellings of its characters, one behind the other.
+-- the converted text as a function: the spellings of its characters, one behind the other
 unfoldable pub converted_text : Charset → Charset → List ℕ → List ℕ
 converted_text from to text =
     if is_binary to then text
@@ -67,28 +67,28 @@ pub record IsFirstUnfit (from to : Charset) (text : List ℕ) (place : ℕ) : Ty
 abbrev pub IsFirstLost : Charset → Charset → List ℕ → ℕ → Type 0
 IsFirstLost from to text place = (is_binary to ≡ false) × IsFirstUnfit from to text place
 
--- How many bytes the shortest spellings of a set have.
+-- how many bytes the shortest spellings of a set have
 abbrev pub unit_len : Charset → ℕ
 unit_len Ucs2 = 2
 unit_len Utf16 = 2
 unit_len Utf32 = 4
 unit_len set = 1
 
--- The bytes behind so many zero bytes that their number is a multiple of the set's unit.
+-- the bytes behind so many zero bytes that their number is a multiple of the set's unit
 abbrev pub padded : Charset → List ℕ → List ℕ
 padded to bytes =
     take ((unit_len to - length bytes % unit_len to) % unit_len to) (0 ∷ 0 ∷ 0 ∷ []) ++ bytes
 
--- The text, or nothing exactly where it is malformed.
+-- the text, or nothing exactly where it is malformed
 abbrev pub IsTaken : Charset → List ℕ → Option (List ℕ) → Type 0
 IsTaken to text None = IsWellFormed to text → ⊥
 IsTaken to text (Some taken) = (taken ≡ text) × IsWellFormed to text
 
--- The padded bytes, or nothing exactly where they are malformed.
+-- the padded bytes, or nothing exactly where they are malformed
 abbrev pub IsReinterpreted : Charset → List ℕ → Option (List ℕ) → Type 0
 IsReinterpreted to bytes answer = IsTaken to (padded to bytes) answer
 
--- What bytes are taken for, as a function: the padded bytes, where they are a text of the set.
+-- what bytes are taken for, as a function: the padded bytes, where they are a text of the set
 unfoldable pub taken_for : Charset → List ℕ → Option (List ℕ)
 taken_for set bytes =
     if is_spelled set (padded set bytes) then Some (padded set bytes) else None

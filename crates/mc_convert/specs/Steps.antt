@@ -31,7 +31,8 @@ pub record TakesFront (from to : Charset) (text old new : List ℕ) (len count :
 
 -- A step took this from the front of the text, or found no character there.
 abbrev pub Takes : Charset → Charset → List ℕ → List ℕ → List ℕ → Result Taken NoMemory → Type 0
-Takes from to text old new (Ok (Front count len fit)) = TakesFront from to text old new len count fit
+Takes from to text old new (Ok (Front count len fit)) =
+    TakesFront from to text old new len count fit
 Takes from to text old new (Ok Nothing) = (chars from text ≡ []) × (new ≡ old)
 Takes from to text old new (Err lack) = ⊤
 

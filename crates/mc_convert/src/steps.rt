@@ -90,7 +90,8 @@ fn take_front<F: Encoding, T: Encoding>(text: &[u8], out: &mut Text) -> Result<T
     }
 }
 
-/// The first bytes, where they are ASCII and both sets spell these characters so.
+/// The first bytes, where they are ASCII and both sets spell these characters so. A look at both
+/// ends of them comes first.
 #[inline(always)]
 fn plain_front<F: Encoding, T: Encoding>(text: &[u8]) -> Option<&[u8; 8]>
     ensures { IfSome result (λ front. (front.now ≡ take 8 text.now) × (8 ≤ length text.now)
@@ -99,7 +100,7 @@ fn plain_front<F: Encoding, T: Encoding>(text: &[u8]) -> Option<&[u8; 8]>
     let Some((front, _)) = text.split_first_chunk::<FRONT_LEN>() else {
         return None;
     };
-    if are_plain(F::charset(), T::charset(), front) {
+    if front[0] < 0x80 && front[7] < 0x80 && are_plain(F::charset(), T::charset(), front) {
         Some(front)
     } else {
         None
