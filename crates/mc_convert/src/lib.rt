@@ -15,8 +15,6 @@ mod padding;
 mod plain;
 mod repertoire;
 mod steps;
-#[cfg(test)]
-mod tests;
 
 pub use conversion::convert;
 pub use exact::{ConvertFault, convert_exact};

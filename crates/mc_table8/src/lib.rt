@@ -26,15 +26,11 @@ mod general_line;
 mod general_reader;
 mod laws;
 mod listing;
-#[cfg(test)]
-mod reader_tests;
 mod run;
 mod table8;
 mod table8_collation;
 mod table8_line;
 mod table8_reader;
-#[cfg(test)]
-mod tests;
 mod weight_line;
 
 pub use fault::TableFault;

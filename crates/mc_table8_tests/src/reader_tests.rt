@@ -1,4 +1,4 @@
-use crate::{TableFault, read_general, read_table8};
+use mc_table8::{TableFault, read_general, read_table8};
 use std::alloc::Global;
 
 /// A fault that a file has.
@@ -318,10 +318,14 @@ fn codes_read(alloc: Global, row: &CodesRow) -> bool {
 }
 
 #[test]
-fn files_of_weights_are_read(rt: HostRuntime) {
+fn files_of_bytes_are_read(rt: HostRuntime) {
     for row in &BYTES_ROWS {
         assert!(rt; bytes_read(rt.alloc(), row), "{}", row.why);
     }
+}
+
+#[test]
+fn files_of_code_points_are_read(rt: HostRuntime) {
     for row in &CODES_ROWS {
         assert!(rt; codes_read(rt.alloc(), row), "{}", row.why);
     }
