@@ -108,7 +108,7 @@ unfolding block_end quote_end element_of elements_behind statement_len statement
 first_cut = refl
 
 first_reads : reading_of first_script (span 0 18) ≡ Some first_query
-unfolding quote_end spelling_of mark_of pair content lexeme_of piece_of tokens_behind tokens_of literal_front operand_front comparison_of form_of query_of set_named reading_of
+unfolding block_end quote_end element_of spelling_of mark_of pair content lexeme_of piece_of tokens_behind tokens_of literal_front operand_front comparison_of form_of query_of set_named reading_of
 first_reads = refl
 
 first_says : query_said plain_world plain_state first_script first_query ≡ one_cell (codes "'a' = 'a  '") (Int (pos 1))
@@ -140,7 +140,7 @@ unfolding block_end quote_end element_of elements_behind statement_len statement
 second_cut = refl
 
 second_reads : reading_of second_script (span 0 16) ≡ Some second_query
-unfolding quote_end spelling_of mark_of pair content lexeme_of piece_of tokens_behind tokens_of literal_front operand_front comparison_of form_of query_of set_named reading_of
+unfolding block_end quote_end element_of spelling_of mark_of pair content lexeme_of piece_of tokens_behind tokens_of literal_front operand_front comparison_of form_of query_of set_named reading_of
 second_reads = refl
 
 second_says : query_said plain_world plain_state second_script second_query ≡ one_cell (codes "'a' = 'b'") (Int (pos 0))
@@ -148,7 +148,7 @@ unfolding chars chars_behind spell spell_all list_order order_to_end bin_number 
 second_says = refl
 
 second_reads_none : reading_of second_script (span 17 25) ≡ None
-unfolding quote_end spelling_of mark_of pair content lexeme_of piece_of tokens_behind tokens_of literal_front operand_front comparison_of form_of query_of set_named reading_of
+unfolding block_end quote_end element_of spelling_of mark_of pair content lexeme_of piece_of tokens_behind tokens_of literal_front operand_front comparison_of form_of query_of set_named reading_of
 second_reads_none = refl
 
 second_text : said_texts (one_cell (codes "'a' = 'b'") (Int (pos 0)) ∷ Refused (no_reading 17) ∷ [])
@@ -180,7 +180,7 @@ unfolding block_end quote_end element_of elements_behind statement_len statement
 third_cut = refl
 
 third_reads : reading_of third_script (span 0 23) ≡ Some third_query
-unfolding spelling_of mark_of pair content lexeme_of paired piece_of tokens_behind tokens_of literal_front operand_front comparison_of hex_of_literal form_of query_of set_named reading_of
+unfolding block_end quote_end element_of spelling_of mark_of pair content lexeme_of paired piece_of tokens_behind tokens_of literal_front operand_front comparison_of hex_of_literal form_of query_of set_named reading_of
 third_reads = refl
 
 third_says : query_said plain_world plain_state third_script third_query
