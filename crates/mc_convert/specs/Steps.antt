@@ -1,6 +1,6 @@
 -- What the private loop of a conversion keeps, a step a time; no public clause cites it.
-use Rattle.std.specs.Prelude.{◌≡◌, ◌<◌, ◌≤◌, ◌&&◌, ℕ, Bool, true, false, List, [], ◌∷◌, ◌++◌, Option}
-use Rattle.std.specs.Prelude.{length, drop, map, slice_index, MatchOption, Result, Ok}
+use Rattle.std.specs.Prelude.{◌≡◌, ◌<◌, ◌≤◌, ◌&&◌, ℕ, Bool, true, false, List, [], ◌∷◌, ◌++◌}
+use Rattle.std.specs.Prelude.{Option, length, drop, map, slice_index, MatchOption, Result, Ok}
 use Rattle.std.specs.Prelude.{Err, ⊤}
 use Rattle.std.specs.Option.{is_some}
 use Rattle.mc_charset.specs.declared.charset.Charset.{Charset}

@@ -58,7 +58,7 @@ pub(crate) struct Converted {
     pub(crate) lost: Option<usize>,
 }
 
-/// The text in another set, in one turn, which an exact conversion ends at the first lost character.
+/// The text in another set, in one turn. An exact conversion stops at the first lost character.
 pub(crate) fn convert_once(
     alloc: Global,
     from: Charset,

@@ -26,9 +26,10 @@ pub fn repertoire_law()
         → rank (cap_of set) ≤ rank other }
 {}
 
-/// The laws of conversion: the converted text is `converted_text`; a text whose repertoire is at most the cap of a set loses no character
-/// to it; a text that loses none has no first lost character, and once converted it has the same
-/// characters. So `convert_exact` refuses no text within the cap. MySQL 8.0 manual, 10.2.1.
+/// The laws of conversion: a text is converted exactly where it is `converted_text`; a text whose
+/// repertoire is at most the cap of a set loses no character to it; a text that loses none has no
+/// first lost character, and once converted it has the same characters. So `convert_exact` refuses
+/// no text within the cap. MySQL 8.0 manual, 10.2.1.
 pub fn conversion_law()
     ensures within_cap { (from to : Charset) (text : List ℕ) (class : Repertoire)
         → IsWellFormed from text → IsRepertoire from text class → rank class ≤ rank (cap_of to)
