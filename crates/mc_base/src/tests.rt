@@ -1,6 +1,6 @@
 use crate::{
-    LineReader, List, MemFiles, MemSink, NoMemory, PutAnswer, ReadWhole, RealFiles, RealSink, Sink,
-    Text, hex_number, next_field, read_whole,
+    FileFault, LineReader, List, MemFiles, MemSink, NoMemory, PutAnswer, ReadWhole, RealFiles,
+    RealSink, Sink, Text, hex_number, next_field, read_file, read_whole,
 };
 use std::alloc::Global;
 use std::fs;
@@ -85,6 +85,24 @@ fn memory_files_are_read_whole(rt: HostRuntime) {
     for row in &ROWS {
         assert!(rt; reads(rt.alloc(), row).unwrap_or(false), "{}", row.why);
     }
+}
+
+fn reads_or_refuses(alloc: Global) -> Result<bool, NoMemory> {
+    let mut files = memory_files(alloc, &[])?;
+    let there = read_file(alloc, &mut files, &Text::from_slice(alloc, b"a")?);
+    let absent = read_file(alloc, &mut files, &Text::from_slice(alloc, b"c")?);
+    Ok(
+        matches!(&there, Ok(text) if text.as_slice() == b"xyz".as_slice())
+            && matches!(&absent, Err(FileFault::Refused(refusal))
+                if refusal.name.as_slice() == b"c".as_slice()
+                    && refusal.fault.as_slice() == b"Absent".as_slice()
+                    && refusal.at == 0),
+    )
+}
+
+#[test]
+fn a_file_is_read_or_refused(rt: HostRuntime) {
+    assert!(rt; reads_or_refuses(rt.alloc()).unwrap_or(false));
 }
 
 fn sink_answers(alloc: Global) -> Result<bool, NoMemory> {

@@ -44,6 +44,6 @@ chars set text = chars_behind set 0 text
 unfoldable pub is_spelled : Charset → List ℕ → Bool
 is_spelled set text = option_map_or (bytes_eq text) (spell_all set (chars set text)) false
 
--- Unicode's code points are the numbers below this one: Unicode Standard, 2.4.
+-- the end of Unicode's code points, the numbers below it: Unicode Standard, 2.4
 abbrev pub code_points : ℕ
 code_points = 0x110000

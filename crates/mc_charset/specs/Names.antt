@@ -1,6 +1,6 @@
 -- The names of the sets and of their binary collations: MySQL 8.0 manual, 10.2 and 10.8.5.
-use Rattle.std.specs.Prelude.{ℕ, Bool, true, false, List, [], ◌∷◌, ◌++◌, Option, codes, map}
-use Rattle.std.specs.Prelude.{option_map}
+use Rattle.std.specs.Prelude.{◌≡◌, ◌⊎◌, ℕ, Bool, true, false, List, [], ◌∷◌, ◌++◌, Option, codes}
+use Rattle.std.specs.Prelude.{map, option_map}
 use Rattle.std.specs.Char.{to_ascii_lowercase}
 use Rattle.std.specs.List.{find}
 use Rattle.std.specs.Str.{bytes_eq}
@@ -18,6 +18,12 @@ name_of Ucs2 = codes "ucs2"
 name_of Utf16 = codes "utf16"
 name_of Utf32 = codes "utf32"
 name_of Binary = codes "binary"
+
+-- The text names the set, the case of A to Z ignored: it is the set's name, or `utf8` for utf8mb3.
+abbrev pub Names : List ℕ → Charset → Type 0
+Names text set =
+    (map to_ascii_lowercase text ≡ name_of set)
+    ⊎ ((map to_ascii_lowercase text ≡ codes "utf8") × (set ≡ Utf8mb3))
 
 -- the names of the sets, in lower case, each with its set; `utf8` is another one of utf8mb3
 abbrev pub named_sets : List (List ℕ × Charset)
@@ -40,7 +46,7 @@ set_named name =
 unfoldable pub same_set : Charset → Charset → Bool
 same_set set other = bytes_eq (name_of set) (name_of other)
 
--- the sets that have Unicode's characters and no others
+-- The set has Unicode's characters and no others.
 abbrev pub is_unicode_set : Charset → Bool
 is_unicode_set Latin1 = false
 is_unicode_set Ascii = false
@@ -57,7 +63,22 @@ built_in_names = codes "binary" ∷ codes "latin1_bin" ∷ codes "ascii_bin" ∷
     ∷ codes "utf8mb4_bin"
     ∷ codes "ucs2_bin" ∷ codes "utf16_bin" ∷ codes "utf32_bin" ∷ codes "utf8mb4_0900_bin" ∷ []
 
+-- how many collations are built in
+abbrev pub built_in_count : ℕ
+built_in_count = 9
+
 -- the name of a set's binary collation: `binary` for binary, else the set's name with `_bin`
 abbrev pub bin_name : Charset → List ℕ
 bin_name Binary = codes "binary"
 bin_name set = name_of set ++ codes "_bin"
+
+-- the number of a set's binary collation, its place among the built-in ones
+abbrev pub bin_number : Charset → ℕ
+bin_number Binary = 0
+bin_number Latin1 = 1
+bin_number Ascii = 2
+bin_number Utf8mb3 = 3
+bin_number Utf8mb4 = 4
+bin_number Ucs2 = 5
+bin_number Utf16 = 6
+bin_number Utf32 = 7

@@ -1,4 +1,4 @@
-ghost use Rattle.mc_charset.specs.CharStart.{IsCharStart, HasWidth, begins_in_utf8};
+ghost use Rattle.mc_charset.specs.CharStart.{IsCharStart, HasWidth, is_not_behind};
 ghost use Rattle.mc_charset.specs.Chars.{chars, IsWellFormed};
 ghost use Rattle.std.specs.Prelude.{◌≡◌, ◌<◌, ◌≤◌, ◌^◌, IfSome, filter, length};
 
@@ -61,22 +61,22 @@ fn count_varied(set: Charset, text: &[u8]) -> u32
     }
 }
 
-/// How many bytes begin a character in UTF-8.
+/// How many bytes are not 80 to BF: in UTF-8 each character has one of these.
 fn count_firsts(text: &[u8]) -> u32
     requires { length text.now < 2 ^ 32 }
-    ensures { result ≡ length (filter begins_in_utf8 text.now) }
+    ensures { result ≡ length (filter is_not_behind text.now) }
 {
     let mut count = 0;
     for byte in text {
-        count += u32::from(begins_in_utf8(*byte));
+        count += u32::from(is_not_behind(*byte));
     }
     count
 }
 
-/// Whether the byte begins a character in UTF-8.
+/// Whether the byte is not one of 80 to BF.
 #[inline(always)]
-fn begins_in_utf8(byte: u8) -> bool
-    ensures { result ≡ begins_in_utf8 byte }
+fn is_not_behind(byte: u8) -> bool
+    ensures { result ≡ is_not_behind byte }
 {
     byte < 0x80 || byte >= 0xC0
 }

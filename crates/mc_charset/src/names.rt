@@ -1,11 +1,14 @@
 ghost use Rattle.mc_charset.specs.Names.{
   name_of,
+  Names,
   set_named,
   same_set,
   is_unicode_set,
   built_in_names,
   bin_name,
+  bin_number,
 };
+ghost use Rattle.mc_charset.specs.declared.charset.Charset.{Charset};
 ghost use Rattle.std.specs.Char.{to_ascii_lowercase};
 ghost use Rattle.std.specs.Prelude.{◌≡◌, ◌↔◌, IsTrue, Some, map, slice_get};
 ghost use Rattle.std.specs.Str.{bytes_eq};
@@ -15,8 +18,16 @@ use crate::collation_id::CollId;
 
 /// The set of this name, the case of A to Z ignored; `utf8` is another name of utf8mb3.
 /// `None` exactly for other names. MySQL 8.0 manual, 10.2.
-#[tactic(auto, unfolding(crate::specs::Names::set_named))]
 pub fn charset_by_name(name: &[u8]) -> Option<Charset>
+    ensures is { result ≡ set_named name.now }
+    ensures names { (set : Charset) → (result ≡ Some set) ↔ Names name.now set }
+{
+    listed_set(name)
+}
+
+/// The set that the list of names has for this name.
+#[tactic(auto, unfolding(crate::specs::Names::set_named))]
+fn listed_set(name: &[u8]) -> Option<Charset>
     ensures { result ≡ set_named name.now }
 {
     if is_named(name, b"latin1") {
@@ -89,7 +100,8 @@ pub fn is_unicode(set: Charset) -> bool
 /// The binary collation of a set: `binary` for binary, else the one named after the set with
 /// `_bin`.
 pub fn bin_of(set: Charset) -> CollId
-    ensures { slice_get built_in_names result.0 ≡ Some (bin_name set) }
+    ensures name { slice_get built_in_names result.0 ≡ Some (bin_name set) }
+    ensures number { result.0 ≡ bin_number set }
 {
     CollId(match set {
         Charset::Binary => 0,

@@ -106,7 +106,7 @@ fn refuses_texts_and_characters(rt: HostRuntime) {
             "{missing}"
         );
         assert_eq!(rt;
-            byte_of(*set, 0x61).is_some(),
+            byte_of(*set, 0x61) == Some(0x61),
             matches!(
                 set,
                 Charset::Latin1

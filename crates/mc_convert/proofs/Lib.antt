@@ -3,6 +3,7 @@ pub mod PlainTexts
 pub mod Conversions
 pub mod CodePoints
 pub mod Lossless
+pub mod BytesClass
 pub mod Caps
 pub mod Texts
 pub mod StepLemmas

@@ -1,8 +1,8 @@
 -- A conversion that goes over a text step by step.
 use Rattle.std.proofs.Common.{◌≡◌, ℕ, ◌+◌, ◌-◌, ◌<◌, ◌≤◌, ◌⊎◌, Bool, true, false, cond, List, [], ◌∷◌, ◌++◌, Option, Some, None, length, take, drop, get_or, map, append_assoc, append-nil, refl, sym, ap, ◌∙◌, subst, arith, inl, inr, zero, suc}
-use Rattle.std.specs.Option.{option_map, option_or}
+use Rattle.std.specs.Option.{is_some, option_map, option_or}
 use Rattle.std.specs.Prelude.{IfSome, MatchOption}
-use Rattle.std.proofs.lemmas.Bool.{cases_lt}
+use Rattle.std.proofs.lemmas.Bool.{cases_lt, false≢true}
 use Rattle.std.proofs.lemmas.Grind.{common_steps}
 use Rattle.std.proofs.lemmas.List.{length-drop, drop-drop, take-append-drop}
 use Rattle.std.proofs.Math.Seq.{drop-append_seam}
@@ -173,6 +173,16 @@ pub Reached_lost : (from to : Charset) (text rest done : List ℕ) (place : ℕ)
     → Reached from to text rest done place lost → chars from rest ≡ [] → IsLostPlace from to text lost
 Reached_lost from to text rest done place lost r e =
     lost_end from to text place lost (none_left (chars from text) place (r.left ∙ e)) r.lost_before
+
+lost_found : (from to : Charset) (text : List ℕ) (place : ℕ) (lost : Option ℕ) → is_some lost ≡ true
+    → LostBefore from to text place lost → IsLostPlace from to text lost
+lost_found from to text place (Some at) e h = h.1
+lost_found from to text place None e h = absurd (false≢true e)
+
+-- The first lost character, where one was met.
+pub Reached_lost_one : (from to : Charset) (text rest done : List ℕ) (place : ℕ) (lost : Option ℕ)
+    → Reached from to text rest done place lost → is_some lost ≡ true → IsLostPlace from to text lost
+Reached_lost_one from to text rest done place lost r e = lost_found from to text place lost e r.lost_before
 
 lost_before_end : (from to : Charset) (text : List ℕ) (place n : ℕ) (lost : Option ℕ) → place ≤ n
     → LostBefore from to text place lost → IfSome lost (λ at. at < n)

@@ -39,7 +39,7 @@ abbrev pub HasAll : Charset → Repertoire → List ℕ → Type 0
 HasAll set class [] = Unit
 HasAll set class (code ∷ codes) = HasIn set class code × HasAll set class codes
 
--- the repertoire of a text: the least class that has each of its characters
+-- The class is the repertoire of the text: the least one that has each of its characters.
 pub record IsRepertoire (set : Charset) (text : List ℕ) (class : Repertoire) : Type 0 where
   pub has_all : HasAll set class (chars set text)
   pub least : (other : Repertoire) → HasAll set other (chars set text) → rank class ≤ rank other

@@ -22,7 +22,7 @@ fits from to code = (not (is_binary from) || nat_lt code 0x80) && is_some (spell
 abbrev pub stand_in : Charset → Charset → ℕ → ℕ
 stand_in from to code = if fits from to code then code else 0x3F
 
--- the converted text: to binary the bytes stay; to other sets each character is itself or `?`
+-- The text is converted: to binary the bytes stay; to other sets each character is itself or `?`.
 abbrev pub IsConverted : Charset → Charset → List ℕ → List ℕ → Type 0
 IsConverted from to text converted =
     MatchBool (is_binary to) (converted ≡ text)
@@ -79,12 +79,12 @@ abbrev pub padded : Charset → List ℕ → List ℕ
 padded to bytes =
     take ((unit_len to - length bytes % unit_len to) % unit_len to) (0 ∷ 0 ∷ 0 ∷ []) ++ bytes
 
--- the text, or nothing exactly where it is malformed
+-- The answer is the text, or nothing exactly where it is malformed.
 abbrev pub IsTaken : Charset → List ℕ → Option (List ℕ) → Type 0
 IsTaken to text None = IsWellFormed to text → ⊥
 IsTaken to text (Some taken) = (taken ≡ text) × IsWellFormed to text
 
--- the padded bytes, or nothing exactly where they are malformed
+-- The answer is the padded bytes, or nothing exactly where they are malformed.
 abbrev pub IsReinterpreted : Charset → List ℕ → Option (List ℕ) → Type 0
 IsReinterpreted to bytes answer = IsTaken to (padded to bytes) answer
 

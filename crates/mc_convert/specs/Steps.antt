@@ -1,7 +1,8 @@
--- One step of a conversion that goes over a text from its front.
-use Rattle.std.specs.Prelude.{◌≡◌, ◌<◌, ◌≤◌, ℕ, Bool, true, false, List, [], ◌∷◌, ◌++◌, Option}
-use Rattle.std.specs.Prelude.{length, drop, map, slice_index, MatchOption, Result, Ok}
+-- What the private loop of a conversion keeps, a step a time; no public clause cites it.
+use Rattle.std.specs.Prelude.{◌≡◌, ◌<◌, ◌≤◌, ◌&&◌, ℕ, Bool, true, false, List, [], ◌∷◌, ◌++◌}
+use Rattle.std.specs.Prelude.{Option, length, drop, map, slice_index, MatchOption, Result, Ok}
 use Rattle.std.specs.Prelude.{Err, ⊤}
+use Rattle.std.specs.Option.{is_some}
 use Rattle.mc_charset.specs.declared.charset.Charset.{Charset}
 use Rattle.mc_charset.specs.Chars.{chars, Spells}
 use Rattle.mc_base.specs.declared.no_memory.NoMemory.{NoMemory}
@@ -40,3 +41,7 @@ Takes from to text old new (Err lack) = ⊤
 abbrev pub IsLostPlace : Charset → Charset → List ℕ → Option ℕ → Type 0
 IsLostPlace from to text lost =
     MatchOption lost (AllFit from to text) (λ place. IsFirstUnfit from to text place)
+
+-- This holds, unless an exact conversion stopped at a lost character.
+abbrev pub UnlessStopped : Bool → Option ℕ → Type 0 → Type 0
+UnlessStopped exact lost Holds = (exact && is_some lost) ≡ false → Holds

@@ -9,7 +9,7 @@ ghost use Rattle.mc_convert.specs.Conversion.{
   is_binary,
   stand_in,
 };
-ghost use Rattle.mc_convert.specs.Steps.{IsLostPlace};
+ghost use Rattle.mc_convert.specs.Steps.{IsLostPlace, UnlessStopped};
 ghost use Rattle.std.specs.Bool.{OnTrue};
 ghost use Rattle.std.specs.Prelude.{
   ◌≡◌,
@@ -44,7 +44,7 @@ pub fn convert(alloc: Global, from: Charset, to: Charset, text: &[u8]) -> Result
     ensures well_formed { IfOk result (λ converted. IsWellFormed to converted) }
 {
     bytes_law(text);
-    match convert_once(alloc, from, to, text) {
+    match convert_once(alloc, from, to, text, false) {
         Ok(converted) => Ok(converted.text),
         Err(NoMemory) => Err(NoMemory),
     }
@@ -58,15 +58,17 @@ pub(crate) struct Converted {
     pub(crate) lost: Option<usize>,
 }
 
-/// The text in another set, in one turn.
+/// The text in another set, in one turn. An exact conversion stops at the first lost character.
 pub(crate) fn convert_once(
     alloc: Global,
     from: Charset,
     to: Charset,
     text: &[u8],
+    exact: bool,
 ) -> Result<Converted, NoMemory>
     requires { IsWellFormed from text.now }
-    ensures is { IfOk result (λ converted. IsConverted from to text.now converted.text) }
+    ensures is { IfOk result (λ converted. UnlessStopped exact converted.lost
+        (IsConverted from to text.now converted.text)) }
     ensures lost { IfOk result (λ converted. MatchOption converted.lost
         (IsLossless from to text.now) (λ place. IsFirstLost from to text.now place)) }
     ensures within { IfOk result (λ converted.
@@ -79,7 +81,7 @@ pub(crate) fn convert_once(
         });
     }
     let mut converted = Text::new(alloc);
-    let lost = fill(from, to, text, &mut converted)?;
+    let lost = fill(from, to, text, exact, &mut converted)?;
     Ok(Converted {
         text: converted,
         lost,
@@ -114,23 +116,29 @@ fn has_spellings(to: Charset, from: Charset) -> bool
 }
 
 /// Converts each character into the empty text, for which room is made once.
-fn fill(from: Charset, to: Charset, text: &[u8], out: &mut Text) -> Result<Option<usize>, NoMemory>
+fn fill(
+    from: Charset,
+    to: Charset,
+    text: &[u8],
+    exact: bool,
+    out: &mut Text,
+) -> Result<Option<usize>, NoMemory>
     requires { out.old ≡ [] }
-    ensures spells { OnOk result (Spells to
-        (map (stand_in from to) (chars from text.now)) out.new) }
+    ensures spells { IfOk result (λ lost. UnlessStopped exact lost
+        (Spells to (map (stand_in from to) (chars from text.now)) out.new)) }
     ensures lost { IfOk result (λ lost. IsLostPlace from to text.now lost) }
     ensures within { IfOk result (λ lost. IfSome lost (λ place. place < length text.now)) }
 {
     out.reserve(room(from, to, text.len()))?;
     match from {
-        Charset::Latin1 => fill_from::<Latin1>(to, text, out),
-        Charset::Ascii => fill_from::<Ascii>(to, text, out),
-        Charset::Utf8mb3 => fill_from::<Utf8mb3>(to, text, out),
-        Charset::Utf8mb4 => fill_from::<Utf8mb4>(to, text, out),
-        Charset::Ucs2 => fill_from::<Ucs2>(to, text, out),
-        Charset::Utf16 => fill_from::<Utf16>(to, text, out),
-        Charset::Utf32 => fill_from::<Utf32>(to, text, out),
-        Charset::Binary => fill_from::<Binary>(to, text, out),
+        Charset::Latin1 => fill_from::<Latin1>(to, text, exact, out),
+        Charset::Ascii => fill_from::<Ascii>(to, text, exact, out),
+        Charset::Utf8mb3 => fill_from::<Utf8mb3>(to, text, exact, out),
+        Charset::Utf8mb4 => fill_from::<Utf8mb4>(to, text, exact, out),
+        Charset::Ucs2 => fill_from::<Ucs2>(to, text, exact, out),
+        Charset::Utf16 => fill_from::<Utf16>(to, text, exact, out),
+        Charset::Utf32 => fill_from::<Utf32>(to, text, exact, out),
+        Charset::Binary => fill_from::<Binary>(to, text, exact, out),
     }
 }
 
@@ -138,29 +146,36 @@ fn fill(from: Charset, to: Charset, text: &[u8], out: &mut Text) -> Result<Optio
 fn fill_from<F: Encoding>(
     to: Charset,
     text: &[u8],
+    exact: bool,
     out: &mut Text,
 ) -> Result<Option<usize>, NoMemory>
     requires { out.old ≡ [] }
-    ensures spells { OnOk result
-        (Spells to (map (stand_in F.set to) (chars F.set text.now)) out.new) }
+    ensures spells { IfOk result (λ lost. UnlessStopped exact lost
+        (Spells to (map (stand_in F.set to) (chars F.set text.now)) out.new)) }
     ensures lost { IfOk result (λ lost. IsLostPlace F.set to text.now lost) }
     ensures within { IfOk result (λ lost. IfSome lost (λ place. place < length text.now)) }
 {
     match to {
-        Charset::Latin1 => convert_each::<F, Latin1>(text, out),
-        Charset::Ascii => convert_each::<F, Ascii>(text, out),
-        Charset::Utf8mb3 => convert_each::<F, Utf8mb3>(text, out),
-        Charset::Utf8mb4 => convert_each::<F, Utf8mb4>(text, out),
-        Charset::Ucs2 => convert_each::<F, Ucs2>(text, out),
-        Charset::Utf16 => convert_each::<F, Utf16>(text, out),
-        Charset::Utf32 => convert_each::<F, Utf32>(text, out),
-        Charset::Binary => convert_each::<F, Binary>(text, out),
+        Charset::Latin1 => convert_each::<F, Latin1>(text, exact, out),
+        Charset::Ascii => convert_each::<F, Ascii>(text, exact, out),
+        Charset::Utf8mb3 => convert_each::<F, Utf8mb3>(text, exact, out),
+        Charset::Utf8mb4 => convert_each::<F, Utf8mb4>(text, exact, out),
+        Charset::Ucs2 => convert_each::<F, Ucs2>(text, exact, out),
+        Charset::Utf16 => convert_each::<F, Utf16>(text, exact, out),
+        Charset::Utf32 => convert_each::<F, Utf32>(text, exact, out),
+        Charset::Binary => convert_each::<F, Binary>(text, exact, out),
     }
 }
 
-/// How many bytes the converted text has at most, or about as many where that isn't known.
+/// Room for a converted text: a byte for each unit where the new set has one byte a character, else
+/// as many of the longer units as the text has units, which may be too few for UTF-8.
 fn room(from: Charset, to: Charset, len: usize) -> usize {
-    (len / unit(from)).saturating_mul(unit(to).max(unit(from)))
+    let units = len / unit(from);
+    match to {
+        Charset::Latin1 | Charset::Ascii | Charset::Binary => units,
+        Charset::Utf8mb3 | Charset::Utf8mb4 | Charset::Ucs2 | Charset::Utf16 | Charset::Utf32 =>
+            units.saturating_mul(unit(to).max(unit(from))),
+    }
 }
 
 /// Whether the set is binary.

@@ -1,10 +1,11 @@
 ghost use Rattle.mc_charset.specs.Chars.{IsWellFormed};
+ghost use Rattle.mc_convert.specs.Conversion.{converted_text};
 ghost use Rattle.mc_convert.specs.Exact.{IsExactly};
-ghost use Rattle.std.specs.Prelude.{◌<◌, ◌^◌, length};
+ghost use Rattle.std.specs.Prelude.{◌≡◌, ◌<◌, ◌^◌, IfOk, length};
 
-use crate::conversion::{Converted, convert_once};
+use crate::conversion::convert_once;
 use mc_base::{NoMemory, Text};
-use mc_charset::Charset;
+use mc_charset::{Charset, bytes_law};
 use std::alloc::Global;
 
 /// Why a text was not converted.
@@ -26,18 +27,18 @@ pub fn convert_exact(
 ) -> Result<Text, ConvertFault>
     requires well_formed { IsWellFormed from text.now }
     requires below_4_gib { length text.now < 2 ^ 32 }
-    ensures { IsExactly from to text.now result }
+    ensures exactly { IsExactly from to text.now result }
+    ensures is { IfOk result (λ converted. converted ≡ converted_text from to text.now) }
+    ensures well_formed { IfOk result (λ converted. IsWellFormed to converted) }
 {
-    match convert_once(alloc, from, to, text) {
-        Ok(
-            Converted {
-                lost: Some(place),
-                ..
-            },
-        ) => Err(ConvertFault::Lossy {
-            place: place as u32,
-        }),
-        Ok(Converted { text, lost: None }) => Ok(text),
+    bytes_law(text);
+    match convert_once(alloc, from, to, text, true) {
+        Ok(converted) => match converted.lost {
+            Some(place) => Err(ConvertFault::Lossy {
+                place: place as u32,
+            }),
+            None => Ok(converted.text),
+        },
         Err(NoMemory) => Err(ConvertFault::NoMemory),
     }
 }

@@ -1,9 +1,15 @@
 ghost use Rattle.mc_charset.specs.Chars.{spell, chars, IsWellFormed};
 ghost use Rattle.mc_charset.specs.declared.charset.Charset.{Charset};
 ghost use Rattle.mc_convert.specs.Classes.{HasIn, IsRepertoire, cap_of, rank};
-ghost use Rattle.mc_convert.specs.Conversion.{IsConverted, IsFirstLost, IsLossless, is_binary};
+ghost use Rattle.mc_convert.specs.Conversion.{
+  IsConverted,
+  IsFirstLost,
+  IsLossless,
+  converted_text,
+  is_binary,
+};
 ghost use Rattle.mc_convert.specs.declared.repertoire.Repertoire.{Repertoire};
-ghost use Rattle.std.specs.Prelude.{◌≡◌, ◌≤◌, ℕ, List, IsSome, false};
+ghost use Rattle.std.specs.Prelude.{◌≡◌, ◌≤◌, ◌↔◌, ℕ, List, IsSome, false};
 
 use mc_charset::chars_law;
 
@@ -20,9 +26,10 @@ pub fn repertoire_law()
         → rank (cap_of set) ≤ rank other }
 {}
 
-/// The laws of conversion: a text whose repertoire is at most the cap of a set loses no character
-/// to it; a text that loses none has no first lost character, and once converted it has the same
-/// characters. So `convert_exact` refuses no text within the cap. MySQL 8.0 manual, 10.2.1.
+/// The laws of conversion: a text is converted exactly where it is `converted_text`; a text whose
+/// repertoire is at most the cap of a set loses no character to it; a text that loses none has no
+/// first lost character, and once converted it has the same characters. So `convert_exact` refuses
+/// no text within the cap. MySQL 8.0 manual, 10.2.1.
 pub fn conversion_law()
     ensures within_cap { (from to : Charset) (text : List ℕ) (class : Repertoire)
         → IsWellFormed from text → IsRepertoire from text class → rank class ≤ rank (cap_of to)
@@ -32,6 +39,11 @@ pub fn conversion_law()
     ensures same_chars { (from to : Charset) (text converted : List ℕ)
         → is_binary to ≡ false → IsLossless from to text → IsConverted from to text converted
         → chars to converted ≡ chars from text }
+    ensures same_text { (from to : Charset) (text : List ℕ)
+        → is_binary to ≡ false → IsLossless from to text
+        → chars to (converted_text from to text) ≡ chars from text }
+    ensures is { (from to : Charset) (text converted : List ℕ)
+        → IsConverted from to text converted ↔ (converted ≡ converted_text from to text) }
 {
     chars_law();
 }

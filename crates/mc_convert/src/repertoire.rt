@@ -1,12 +1,13 @@
 ghost use Rattle.mc_charset.specs.Chars.{IsWellFormed};
+ghost use Rattle.mc_charset.specs.declared.charset.Charset.TheVariants.{Binary};
 ghost use Rattle.mc_convert.specs.Classes.{Has, HasIn, IsRepertoire, cap_of, rank};
 ghost use Rattle.mc_convert.specs.declared.repertoire.Repertoire.{Repertoire};
 ghost use Rattle.std.specs.Prelude.{◌≡◌, ◌≤◌, ◌↔◌, IsTrue, max};
 
 use crate::plain::is_plain;
 use mc_charset::{
-    Ascii, Binary, CharAt, Charset, Encoding, Latin1, Ucs2, Utf8mb3, Utf8mb4, Utf16, Utf32,
-    has_char, next_in,
+    Ascii, CharAt, Charset, Encoding, Latin1, Ucs2, Utf8mb3, Utf8mb4, Utf16, Utf32, bytes_law,
+    chars_law, has_in, next_in,
 };
 
 /// A class of characters. The classes form a chain in this order.
@@ -72,19 +73,39 @@ pub fn repertoire_of(set: Charset, text: &[u8]) -> Repertoire
     requires { IsWellFormed set text.now }
     ensures { IsRepertoire set text.now result }
 {
-    if is_plain(set, text) {
+    match set {
+        Charset::Latin1 => class_of::<Latin1>(text),
+        Charset::Ascii => class_of::<Ascii>(text),
+        Charset::Utf8mb3 => class_of::<Utf8mb3>(text),
+        Charset::Utf8mb4 => class_of::<Utf8mb4>(text),
+        Charset::Ucs2 => class_of::<Ucs2>(text),
+        Charset::Utf16 => class_of::<Utf16>(text),
+        Charset::Utf32 => class_of::<Utf32>(text),
+        Charset::Binary => class_of_bytes(text),
+    }
+}
+
+/// The repertoire of binary data.
+fn class_of_bytes(text: &[u8]) -> Repertoire
+    ensures { IsRepertoire Binary text.now result }
+{
+    chars_law();
+    bytes_law(text);
+    if text.is_ascii() {
+        Repertoire::Ascii
+    } else {
+        Repertoire::Bytes
+    }
+}
+
+/// The repertoire of a text in one set.
+fn class_of<E: Encoding>(text: &[u8]) -> Repertoire
+    ensures { IsRepertoire E.set text.now result }
+{
+    if is_plain(E::charset(), text) {
         return Repertoire::Ascii;
     }
-    match set {
-        Charset::Latin1 => class_of_each::<Latin1>(text),
-        Charset::Ascii => class_of_each::<Ascii>(text),
-        Charset::Utf8mb3 => class_of_each::<Utf8mb3>(text),
-        Charset::Utf8mb4 => class_of_each::<Utf8mb4>(text),
-        Charset::Ucs2 => class_of_each::<Ucs2>(text),
-        Charset::Utf16 => class_of_each::<Utf16>(text),
-        Charset::Utf32 => class_of_each::<Utf32>(text),
-        Charset::Binary => class_of_each::<Binary>(text),
-    }
+    class_of_each::<E>(text)
 }
 
 /// Goes over one character after the other.
@@ -139,7 +160,7 @@ fn class_above_7f(code: u32) -> Repertoire
 {
     if code >= 0x10000 {
         Repertoire::Unicode
-    } else if has_char(Charset::Latin1, code) {
+    } else if has_in::<Latin1>(code) {
         Repertoire::Latin1
     } else {
         Repertoire::Bmp

@@ -1,7 +1,7 @@
 ghost use Rattle.mc_charset.specs.Chars.{spell, chars, Spells};
 ghost use Rattle.mc_convert.specs.Conversion.{fits, stand_in};
 ghost use Rattle.mc_convert.specs.Plain.{IsPlain};
-ghost use Rattle.mc_convert.specs.Steps.{IsLostPlace, Takes};
+ghost use Rattle.mc_convert.specs.Steps.{IsLostPlace, Takes, UnlessStopped};
 ghost use Rattle.std.specs.Option.{option_map, option_or};
 ghost use Rattle.std.specs.Prelude.{
   ◌≡◌,
@@ -39,14 +39,15 @@ pub(crate) enum Taken {
 }
 
 /// Appends each character of the text in the other set, or `?` where that set lacks it. The place
-/// of the first one that it lacks, in characters from 0.
+/// of the first one that it lacks, in characters from 0. An exact conversion stops there.
 pub(crate) fn convert_each<F: Encoding, T: Encoding>(
     text: &[u8],
+    exact: bool,
     out: &mut Text,
 ) -> Result<Option<usize>, NoMemory>
     requires { out.old ≡ [] }
-    ensures spells { OnOk result
-        (Spells T.set (map (stand_in F.set T.set) (chars F.set text.now)) out.new) }
+    ensures spells { IfOk result (λ lost. UnlessStopped exact lost
+        (Spells T.set (map (stand_in F.set T.set) (chars F.set text.now)) out.new)) }
     ensures lost { IfOk result (λ lost. IsLostPlace F.set T.set text.now lost) }
     ensures within { IfOk result (λ lost. IfSome lost (λ place. place < length text.now)) }
 {
@@ -58,6 +59,9 @@ pub(crate) fn convert_each<F: Encoding, T: Encoding>(
         match take_front::<F, T>(rest, out) {
             Ok(Taken::Front { count, len, fit }) => {
                 lost = first_lost(lost, place, fit);
+                if exact && lost.is_some() {
+                    return Ok(lost);
+                }
                 place += count;
                 rest = &rest[len..];
             }
