@@ -81,14 +81,14 @@ shifted Latin1 n at byte e = refl
 shifted Ascii n at byte e = refl
 shifted Binary n at byte e = refl
 
-positive_count : (a b n : ℕ) → n < a * b → 0 < b
+pub positive_count : (a b n : ℕ) → n < a * b → 0 < b
 positive_count a zero n l = absurd (omega arith)
 positive_count a (suc b) n l = omega arith
 
-quotient_below : (n a b : ℕ) → 0 < b → n < a * b → n / b < a
+pub quotient_below : (n a b : ℕ) → 0 < b → n < a * b → n / b < a
 quotient_below n a b some l = grind (arith, div-lt_iff_lt-mul)
 
-plus_none : (at : ℕ) → at + 0 ≡ at
+pub plus_none : (at : ℕ) → at + 0 ≡ at
 plus_none at = omega arith
 
 plus_one : (at i : ℕ) → at + suc i ≡ at + 1 + i
@@ -184,12 +184,12 @@ pub split : (set : Charset) (code : ℕ) (codes text : List ℕ) → Spells set 
 unfolding spell_all
 split set code codes text h = split_options (spell set code) (spell_all set codes) text h
 
-Spells-cons : (set : Charset) (code : ℕ) (codes t u : List ℕ) → spell set code ≡ Some t →
+pub Spells-cons : (set : Charset) (code : ℕ) (codes t u : List ℕ) → spell set code ≡ Some t →
     Spells set codes u → Spells set (code ∷ codes) (t ++ u)
 unfolding spell_all
 Spells-cons set code codes t u s r = rw (s, r) refl
 
-Spells-none : (set : Charset) → Spells set [] []
+pub Spells-none : (set : Charset) → Spells set [] []
 unfolding spell_all
 Spells-none set = refl
 
@@ -282,6 +282,8 @@ shares_front set a b at one decodes joins same ba bb =
       decodes (ba.0 ++ ba.1) a joined_a ∙ ap (λ r. ba.0 ++ r) (sym (decodes ba.1 (drop at a) ba.3)),
       decodes (bb.0 ++ bb.1) b joined_b ∙ ap (λ f. f ++ bb.1) front ∙ ap (λ r. ba.0 ++ r) (sym
           (decodes bb.1 (drop at b) bb.3)),
+      ba.2,
+      rw (← same) ba.2,
     )
 
 pub take_fewer : (a b : List ℕ) (n m : ℕ) → take n a ≡ take n b → m ≤ n → take m a ≡ take m b

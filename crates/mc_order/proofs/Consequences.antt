@@ -1,6 +1,6 @@
 -- What follows from the laws of a collation.
-use Rattle.std.proofs.Common.{◌≡◌, ℕ, zero, suc, ◌≤◌, Bool, true, false, cond, List, [], ◌∷◌, ◌++◌, append_assoc, length, take, drop, refl, sym, ap, ◌∙◌, subst, arith}
-use Rattle.std.specs.List.{All}
+use Rattle.std.proofs.Common.{◌≡◌, ◌≢◌, ℕ, zero, suc, ◌≤◌, Bool, true, false, List, [], ◌∷◌, ◌++◌, append_assoc, length, take, drop, refl, sym, ap, ◌∙◌, subst, inl, inr, arith}
+use Rattle.std.specs.List.{All, Contains}
 use Rattle.std.proofs.lemmas.Bool.Decides.{nat_tests}
 use Rattle.std.proofs.lemmas.List.{take-append-drop}
 use Rattle.std.proofs.lemmas.List.Elements.{All-cons, All-head, All-tail, All-append, All-weaker, All-contains}
@@ -10,10 +10,10 @@ use Rattle.mc_charset.specs.Chars.{spell, chars}
 use Rattle.mc_order.specs.declared.pad.Pad.{Pad}
 use Rattle.mc_order.specs.Ascending.{IsAscending-unique}
 use Rattle.mc_order.specs.Characters.{AreCharsOf-parts, AreCharsOf-one, AreCharsOf-join, AreCharsOf-split}
-use Rattle.mc_order.specs.Consequences.{before_separator, FirstListBegins, FlatListsAreBounded, SpaceIsWeight, IsSameChar, SafeFrontStands, TailsAreComputed, FloorIsComputed, HeadsAreChars, EmptyHasNoWeights, CharsAreCut, CharsAreJoined}
+use Rattle.mc_order.specs.Consequences.{before_separator, FirstListBegins, FlatListsAreBounded, SpaceIsWeight, IsSameChar, SafeFrontStands, TailsAreComputed, TailsAreWeights, FloorIsAllOrNone, NoFloorBesideTails, HeadsAreChars, EmptyHasNoWeights, CharsAreCut, CharsAreJoined}
 use Rattle.mc_order.specs.Floor.{weighs}
 use Rattle.mc_order.specs.FloorLaw.{weighs_decides}
-use Rattle.mc_order.specs.Laws.{greatest_weight, IsWeight, KeepsSpace, IsLawful}
+use Rattle.mc_order.specs.Laws.{greatest_weight, IsWeight, HasWeightPerChar, KeepsSpace, IsLawful}
 use Rattle.mc_order.specs.Meaning.{Meaning, joined_levels, flat_list, IsCharOf, AreCharsOf, IsSafe}
 use Rattle.mc_order.specs.Tails.{tails_of}
 use Rattle.mc_order.specs.TailsLaw.{tails_of-ascends, tails_of-each, tails_of-none}
@@ -141,21 +141,37 @@ tails_are_computed m laws =
       λ h. (laws.tails_of.each weights).1 ((tails_of-each m weights).0 h),
     ))
 
-floor_by : (m : Meaning) → IsLawful m → (k : ℕ) (all : Bool) →
-    weighs m.charset (m.level_list 1) m.contractions ≡ all → m.floor k ≡ cond all k 0
-floor_by m laws k true e = (laws.floor_of k).0 ((weighs_decides m).0 e)
-floor_by m laws k false e =
-    (laws.floor_of k).1 (λ h. let t : true ≡ false = sym ((weighs_decides m).1 h) ∙ e in cc)
+-- The characters of a tail's prefix have weights.
+pub tails_are_weights : (m : Meaning) → IsLawful m → TailsAreWeights m
+tails_are_weights m laws tail among =
+    let is = (laws.tails_of.each tail).0 among in
+    let whole = All-contains (λ codes. (2 ≤ length codes) × AreCharsOf m.charset codes)
+    m.contractions (is.front ++ is.rest) laws.contractions_of is.joined in
+    let chars = (AreCharsOf-split m.charset is.front is.rest whole.1).0 in (
+      is.some_weights,
+      subst (All (IsWeight m)) is.first_list
+          (laws.bounds 1 is.front (omega arith) laws.settings.some_level chars),
+    )
+
+-- The search over the code points decides which of the two it is.
+floor_by : (m : Meaning) → IsLawful m → (all : Bool) →
+    weighs m.charset (m.level_list 1) m.contractions ≡ all → FloorIsAllOrNone m
+floor_by m laws true e =
+    let all = (weighs_decides m).0 e in inl (all, λ k. (laws.floor_of k).0 all)
+floor_by m laws false e =
+    let none : HasWeightPerChar m → ⊥ =
+    λ h. let t : true ≡ false = sym ((weighs_decides m).1 h) ∙ e in cc in
+    inr (none, λ k. (laws.floor_of k).1 none)
+
+pub floor_is_all_or_none : (m : Meaning) → IsLawful m → FloorIsAllOrNone m
+floor_is_all_or_none m laws = floor_by m laws (weighs m.charset (m.level_list 1) m.contractions) refl
 
 none_beside : (m : Meaning) → IsLawful m → m.contractions ≡ [] → m.tails ≡ []
 none_beside m laws none =
     tails_are_computed m laws ∙ ap (tails_of (m.level_list 1)) none ∙ tails_of-none (m.level_list 1)
 
-pub floor_is_computed : (m : Meaning) → IsLawful m → FloorIsComputed m
-floor_is_computed m laws k = (
-  floor_by m laws k (weighs m.charset (m.level_list 1) m.contractions) refl,
-  λ some. (laws.floor_of k).1 (λ h. some (none_beside m laws h.0)),
-)
+pub no_floor_beside_tails : (m : Meaning) → IsLawful m → NoFloorBesideTails m
+no_floor_beside_tails m laws some k = (laws.floor_of k).1 (λ h. some (none_beside m laws h.0))
 
 pub heads_are_chars : (m : Meaning) → IsLawful m → HeadsAreChars m
 heads_are_chars m laws code head =

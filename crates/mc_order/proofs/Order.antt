@@ -3,6 +3,8 @@ use Rattle.std.proofs.Common.{◌≡◌, ℕ, zero, suc, ◌+◌, ◌-◌, ◌<�
 use Rattle.std.specs.declared.cmp.Ordering.{Ordering}
 use Rattle.std.specs.declared.cmp.Ordering.TheVariants.{Less, Equal, Greater}
 use Rattle.std.specs.Ordering.{nat_cmp, ordering_then, ordering_reverse, MatchOrdering}
+use Rattle.std.specs.List.{All}
+use Rattle.std.proofs.lemmas.List.Elements.{All-head, All-tail}
 use Rattle.std.specs.Cmp.{IsTotalOrder}
 use Rattle.std.specs.Cmp.Lexicographic.{slice_cmp}
 use Rattle.std.proofs.lemmas.Cmp.{ranked}
@@ -244,3 +246,45 @@ list_order-prolonged space [] [] h = cc
 list_order-prolonged space [] (y ∷ ys) h = cc
 list_order-prolonged space (x ∷ xs) more h =
     list_order-prolonged space xs more (sym (list_order-same NoPad space x x xs (xs ++ more) refl) ∙ h)
+
+known_less : (x y : ℕ) (o : Ordering) → MatchOrdering o (x < y) (x ≡ y) (y < x) → x < y → o ≡ Less
+known_less x y Less h below = refl
+known_less x y Equal h below = absurd (omega arith)
+known_less x y Greater h below = absurd (omega arith)
+
+known_more : (x y : ℕ) (o : Ordering) → MatchOrdering o (x < y) (x ≡ y) (y < x) → y < x → o ≡ Greater
+known_more x y Less h above = absurd (omega arith)
+known_more x y Equal h above = absurd (omega arith)
+known_more x y Greater h above = refl
+
+-- A list that ends before the other one stands before it, as 0 before a weight.
+levels-end_left : (space y : ℕ) (ys more other : List ℕ) → 0 < y →
+    list_order NoPad space (0 ∷ more) (y ∷ (ys ++ 0 ∷ other))
+    ≡ ordering_then (list_order NoPad space [] (y ∷ ys)) (list_order NoPad space more other)
+unfolding list_order order_to_end
+levels-end_left space y ys more other some =
+    ap (λ o. ordering_then o (list_order NoPad space more (ys ++ 0 ∷ other)))
+    (known_less 0 y (nat_cmp 0 y) (ranked 0 y (nat_cmp 0 y) refl) some)
+
+levels-end_right : (space x : ℕ) (xs more other : List ℕ) → 0 < x →
+    list_order NoPad space (x ∷ (xs ++ 0 ∷ more)) (0 ∷ other)
+    ≡ ordering_then (list_order NoPad space (x ∷ xs) []) (list_order NoPad space more other)
+unfolding list_order order_to_end
+levels-end_right space x xs more other some =
+    ap (λ o. ordering_then o (list_order NoPad space (xs ++ 0 ∷ more) other))
+    (known_more x 0 (nat_cmp x 0) (ranked x 0 (nat_cmp x 0) refl) some)
+
+-- Weights before a separator decide, else what stands behind it.
+pub list_order-levels : (space : ℕ) (a b more other : List ℕ) → All (λ weight. 0 < weight) a →
+    All (λ weight. 0 < weight) b → list_order NoPad space (a ++ 0 ∷ more) (b ++ 0 ∷ other)
+    ≡ ordering_then (list_order NoPad space a b) (list_order NoPad space more other)
+unfolding list_order order_to_end
+list_order-levels space [] [] more other pa pb =
+    list_order-same NoPad space 0 0 more other refl
+list_order-levels space [] (y ∷ ys) more other pa pb =
+    levels-end_left space y ys more other (All-head (λ weight. 0 < weight) y ys pb)
+list_order-levels space (x ∷ xs) [] more other pa pb =
+    levels-end_right space x xs more other (All-head (λ weight. 0 < weight) x xs pa)
+list_order-levels space (x ∷ xs) (y ∷ ys) more other pa pb =
+    after (nat_cmp x y) _ _ _ (list_order-levels space xs ys more other
+    (All-tail (λ weight. 0 < weight) x xs pa) (All-tail (λ weight. 0 < weight) y ys pb))

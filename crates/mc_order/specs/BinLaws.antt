@@ -14,7 +14,7 @@ use Rattle.mc_order.specs.declared.pad.Pad.TheVariants.{PadSpace, NoPad}
 use Rattle.mc_order.specs.Meaning.{IsCharOf, AreCharsOf}
 use Rattle.mc_order.specs.Laws.{KeepsSpace, KeepsSettings, IsWeight, IsCut, HasWeightPerChar}
 use Rattle.mc_order.specs.Laws.{IsLawful}
-use Rattle.mc_order.specs.WithoutContractions.{without_tails, map-split, enough}
+use Rattle.mc_order.specs.WithoutContractions.{without_tails, map-split, map-enough}
 use Rattle.mc_order.specs.Bin.{is_one_byte, first_byte, bin_number, bin_meaning}
 use Rattle.mc_order.specs.Characters.{AreCharsOf-parts}
 use Rattle.mc_order.specs.Spelling.{one_byte}
@@ -94,7 +94,7 @@ bin_cut set pad k codes =
       front = sym (append-nil (map f (take k codes)));
       whole = map-split f k codes;
       none_or_tail = inl refl;
-      enough = enough f k codes;
+      enough = map-enough f k codes;
     }
 
 bin_weights : (set : Charset) (pad : Pad) → HasWeightPerChar (bin_meaning (set, pad))

@@ -1,6 +1,6 @@
 -- Where characters begin in a text, and what two texts share in front.
-use Rattle.std.specs.Prelude.{◌≡◌, ℕ, ◌%◌, ◌==◌, ◌&&◌, ◌||◌, Bool, true, nat_lt, List, ◌++◌, take}
-use Rattle.std.specs.Prelude.{drop}
+use Rattle.std.specs.Prelude.{◌≡◌, ◌≢◌, ℕ, ◌%◌, ◌==◌, ◌&&◌, ◌||◌, Bool, true, nat_lt, List, []}
+use Rattle.std.specs.Prelude.{◌∷◌, ◌++◌, take, drop}
 use Rattle.mc_charset.specs.declared.charset.Charset.{Charset}
 use Rattle.mc_charset.specs.declared.charset.Charset.TheVariants.{Latin1, Ascii, Utf8mb3, Utf8mb4}
 use Rattle.mc_charset.specs.declared.charset.Charset.TheVariants.{Ucs2, Utf16, Utf32, Binary}
@@ -16,7 +16,14 @@ IsBoundary set text at =
 abbrev pub SharesFront : Charset → List ℕ → List ℕ → ℕ → Type 0
 SharesFront set a b at =
     (front : List ℕ) × (chars set a ≡ front ++ chars set (drop at a)) ×
-    (chars set b ≡ front ++ chars set (drop at b))
+    (chars set b ≡ front ++ chars set (drop at b)) ×
+    Spells set front (take at a) × Spells set front (take at b)
+
+-- One of the lists is empty, or their first members differ.
+abbrev pub PartAtOnce : List ℕ → List ℕ → Type 0
+PartAtOnce [] ys = Unit {0}
+PartAtOnce (x ∷ xs) [] = Unit {0}
+PartAtOnce (x ∷ xs) (y ∷ ys) = x ≢ y
 
 -- A spelling may begin at this place of a text with this byte: no byte inside a spelling stands so.
 abbrev pub may_begin : Charset → ℕ → ℕ → Bool

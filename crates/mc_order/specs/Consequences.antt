@@ -1,12 +1,11 @@
 -- What follows from the laws of a collation, for the ranges and patterns that rest on them.
-use Rattle.std.specs.Prelude.{◌≡◌, ◌≢◌, ◌==◌, ◌↔◌, ℕ, ◌≤◌, List, [], ◌∷◌, ◌++◌, take, drop}
+use Rattle.std.specs.Prelude.{◌≡◌, ◌≢◌, ◌==◌, ◌⊎◌, ◌↔◌, ℕ, ◌≤◌, List, [], ◌∷◌, ◌++◌, take, drop}
 use Rattle.std.specs.Prelude.{if◌then◌else◌}
-use Rattle.std.specs.List.{All, AllZip}
+use Rattle.std.specs.List.{All, AllZip, Contains}
 use Rattle.mc_charset.specs.declared.charset.Charset.{Charset}
 use Rattle.mc_charset.specs.Chars.{chars, IsWellFormed}
 use Rattle.mc_order.specs.declared.pad.Pad.TheVariants.{PadSpace}
-use Rattle.mc_order.specs.Floor.{floor_of}
-use Rattle.mc_order.specs.Laws.{greatest_weight}
+use Rattle.mc_order.specs.Laws.{greatest_weight, IsWeight, HasWeightPerChar}
 use Rattle.mc_order.specs.Meaning.{Meaning, separator, joined_levels, flat_list, IsCharOf}
 use Rattle.mc_order.specs.Meaning.{AreCharsOf, IsHead, IsSafe}
 use Rattle.mc_order.specs.Tails.{tails_of}
@@ -49,9 +48,20 @@ SafeFrontStands m =
 abbrev pub TailsAreComputed : Meaning → Type 0
 TailsAreComputed m = m.tails ≡ tails_of (m.level_list 1) m.contractions
 
--- The floor is computed, and it is 0 beside a tail.
-abbrev pub FloorIsComputed : Meaning → Type 0
-FloorIsComputed m = (k : ℕ) → (m.floor k ≡ floor_of m k) × (m.tails ≢ [] → m.floor k ≡ 0)
+-- A tail has weights, and weights alone.
+abbrev pub TailsAreWeights : Meaning → Type 0
+TailsAreWeights m =
+    (tail : List ℕ) → Contains m.tails tail → (tail ≢ []) × All (IsWeight m) tail
+
+-- Each character has a weight of its own and the floor of k is k, or not and the floor is 0.
+abbrev pub FloorIsAllOrNone : Meaning → Type 0
+FloorIsAllOrNone m =
+    (HasWeightPerChar m × ((k : ℕ) → m.floor k ≡ k))
+    ⊎ ((HasWeightPerChar m → ⊥) × ((k : ℕ) → m.floor k ≡ 0))
+
+-- Beside a tail the floor is 0.
+abbrev pub NoFloorBesideTails : Meaning → Type 0
+NoFloorBesideTails m = m.tails ≢ [] → (k : ℕ) → m.floor k ≡ 0
 
 -- What begins a contraction is a character of the set.
 abbrev pub HeadsAreChars : Meaning → Type 0

@@ -1,7 +1,8 @@
 ghost use Rattle.mc_charset.specs.Chars.{chars, IsWellFormed};
 ghost use Rattle.mc_charset.specs.declared.charset.Charset.{Charset as Set};
 ghost use Rattle.mc_order.specs.Consequences.{FirstListBegins, FlatListsAreBounded, SpaceIsWeight};
-ghost use Rattle.mc_order.specs.Consequences.{SafeFrontStands, TailsAreComputed, FloorIsComputed};
+ghost use Rattle.mc_order.specs.Consequences.{SafeFrontStands, TailsAreComputed, TailsAreWeights};
+ghost use Rattle.mc_order.specs.Consequences.{FloorIsAllOrNone, NoFloorBesideTails};
 ghost use Rattle.mc_order.specs.Consequences.{HeadsAreChars, EmptyHasNoWeights};
 ghost use Rattle.mc_order.specs.Consequences.{CharsAreCut, CharsAreJoined, TextsAreChars};
 ghost use Rattle.mc_order.specs.Laws.{IsLawful};
@@ -100,7 +101,9 @@ pub fn collation_laws<C: Collation>(collation: &C)
     ensures space { SpaceIsWeight (C.meaning collation.now) }
     ensures safe_front { SafeFrontStands (C.meaning collation.now) }
     ensures tails { TailsAreComputed (C.meaning collation.now) }
-    ensures floor { FloorIsComputed (C.meaning collation.now) }
+    ensures tail_weights { TailsAreWeights (C.meaning collation.now) }
+    ensures floor { FloorIsAllOrNone (C.meaning collation.now) }
+    ensures no_floor { NoFloorBesideTails (C.meaning collation.now) }
     ensures heads { HeadsAreChars (C.meaning collation.now) }
     ensures empty { EmptyHasNoWeights (C.meaning collation.now) }
 {}

@@ -37,4 +37,5 @@ pub use char_weights::{CharWeight, compare_chars, put_chars};
 pub use collation::{Collation, characters_laws, collation_laws};
 pub use lists::{compare_lists, order_laws};
 pub use pad::Pad;
+pub use shared::shared_start;
 pub use stream::{WeightStream, compare_streams, put_first_weights, put_weights};

@@ -1,10 +1,12 @@
 ghost use Rattle.mc_order.specs.Laws.{IsAscending};
+ghost use Rattle.mc_order.specs.Meaning.{separator};
 ghost use Rattle.mc_order.specs.Order.{IsOrder, order_to_end, list_order};
 ghost use Rattle.mc_order.specs.declared.pad.Pad.{Pad as Padding};
 ghost use Rattle.mc_order.specs.declared.pad.Pad.TheVariants.{NoPad};
 ghost use Rattle.std.specs.Cmp.{IsTotalOrder};
-ghost use Rattle.std.specs.List.{Contains};
-ghost use Rattle.std.specs.Prelude.{◌≡◌, ◌≢◌, ◌⊎◌, ◌↔◌, ℕ, List, ◌++◌, length};
+ghost use Rattle.std.specs.List.{All, Contains};
+ghost use Rattle.std.specs.Ordering.{ordering_then};
+ghost use Rattle.std.specs.Prelude.{◌≡◌, ◌≢◌, ◌⊎◌, ◌↔◌, ℕ, ◌<◌, List, ◌∷◌, ◌++◌, length};
 ghost use Rattle.std.specs.declared.cmp.Ordering.TheVariants.{Equal, Greater};
 
 use crate::Pad;
@@ -63,7 +65,8 @@ fn order_to_spaces(list: &[u32], space: u32) -> Ordering
 
 /// What `list_order` is: the one order of two lists that are prolonged without end, and so a total
 /// order. What two lists begin with decides nothing. Without padding only one list is equal to a
-/// list, and none is above what begins with it. Ascending lists of the same members are one.
+/// list, none is above what begins with it, and weights before a separator decide before what
+/// stands behind it. Ascending lists of the same members are one.
 pub fn order_laws()
     ensures described { (pad : Padding) (space : ℕ) (a b : List ℕ) →
         IsOrder pad space a b (list_order pad space a b) }
@@ -75,6 +78,10 @@ pub fn order_laws()
     ensures same { (space : ℕ) (a b : List ℕ) → list_order NoPad space a b ≡ Equal → a ≡ b }
     ensures prolonged { (space : ℕ) (list more : List ℕ) →
         list_order NoPad space list (list ++ more) ≢ Greater }
+    ensures levels { (space : ℕ) (a b more other : List ℕ) → All (λ weight. separator < weight) a →
+        All (λ weight. separator < weight) b →
+        list_order NoPad space (a ++ separator ∷ more) (b ++ separator ∷ other)
+        ≡ ordering_then (list_order NoPad space a b) (list_order NoPad space more other) }
     ensures members { (lists others : List (List ℕ)) → IsAscending lists → IsAscending others →
         ((list : List ℕ) → Contains lists list ↔ Contains others list) → lists ≡ others }
 {}

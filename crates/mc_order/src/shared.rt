@@ -1,6 +1,6 @@
-ghost use Rattle.mc_charset.specs.Chars.{IsWellFormed};
-ghost use Rattle.mc_order.specs.Boundary.{IsBoundary, SharesFront, may_begin};
-ghost use Rattle.std.specs.Prelude.{◌≡◌, ◌≤◌, ◌<◌, IsTrue, length};
+ghost use Rattle.mc_charset.specs.Chars.{IsWellFormed, chars};
+ghost use Rattle.mc_order.specs.Boundary.{IsBoundary, SharesFront, PartAtOnce, may_begin};
+ghost use Rattle.std.specs.Prelude.{◌≡◌, ◌↔◌, ◌≤◌, ◌<◌, IsTrue, length, drop};
 
 use crate::shared_bytes;
 use mc_charset::{Charset, chars_law};
@@ -23,7 +23,7 @@ fn may_begin(charset: Charset, at: usize, byte: u8) -> bool
 fn is_boundary(charset: Charset, text: &[u8], at: usize) -> bool
     requires well_formed { IsWellFormed charset text.now }
     requires within { at ≤ length text.now }
-    ensures boundary { IsTrue result → IsBoundary charset text.now at }
+    ensures boundary { IsTrue result ↔ IsBoundary charset text.now at }
     ensures start { at ≡ 0 → IsTrue result }
 {
     if at == 0 {
@@ -41,7 +41,7 @@ fn is_shared_boundary(charset: Charset, a: &[u8], b: &[u8], at: usize) -> bool
     requires second { IsWellFormed charset b.now }
     requires within_first { at ≤ length a.now }
     requires within_second { at ≤ length b.now }
-    ensures boundary { IsTrue result → IsBoundary charset a.now at × IsBoundary charset b.now at }
+    ensures boundary { IsTrue result ↔ (IsBoundary charset a.now at × IsBoundary charset b.now at) }
     ensures start { at ≡ 0 → IsTrue result }
 {
     if !is_boundary(charset, a, at) {
@@ -51,13 +51,15 @@ fn is_shared_boundary(charset: Charset, a: &[u8], b: &[u8], at: usize) -> bool
 }
 
 /// Where the characters end that two texts have in common in front: a place in both, in bytes, at
-/// or before the first byte that differs.
-pub(crate) fn shared_start(charset: Charset, a: &[u8], b: &[u8]) -> usize
+/// or before the first byte that differs. Behind it one text ends, or the next characters differ.
+pub fn shared_start(charset: Charset, a: &[u8], b: &[u8]) -> usize
     requires first { IsWellFormed charset a.now }
     requires second { IsWellFormed charset b.now }
     ensures within_first { result ≤ length a.now }
     ensures within_second { result ≤ length b.now }
     ensures shared { SharesFront charset a.now b.now result }
+    ensures parts { PartAtOnce (chars charset (drop result a.now))
+        (chars charset (drop result b.now)) }
 {
     chars_law();
     let mut start = shared_bytes(a, b);

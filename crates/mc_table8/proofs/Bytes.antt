@@ -3,7 +3,7 @@ use Rattle.std.proofs.Common.{◌≡◌, ℕ, ◌+◌, ◌-◌, ◌<◌, true, L
 use Rattle.std.specs.Prelude.{option_and_then}
 use Rattle.std.specs.List.{flat_map}
 use Rattle.std.proofs.lemmas.Grind.{flat_map-append}
-use Rattle.std.proofs.lemmas.List.{take-append-drop, take-map, take_more}
+use Rattle.std.proofs.lemmas.List.{take-map, take_more}
 use Rattle.std.proofs.lemmas.List.Folds.{flat_map-map}
 use Rattle.mc_charset.specs.declared.charset.Charset.{Charset}
 use Rattle.mc_charset.specs.declared.charset.Charset.TheVariants.{Latin1, Ascii, Utf8mb3, Utf8mb4, Ucs2, Utf16, Utf32, Binary}
@@ -14,38 +14,40 @@ use Rattle.mc_order.specs.Bin.{is_one_byte, first_byte}
 use Rattle.mc_order.specs.Characters.{AreCharsOf-parts}
 use Rattle.mc_order.specs.Spelling.{one_byte}
 use Rattle.mc_order.specs.Order.{list_order}
-use Rattle.mc_order.proofs.Steps.{list_order-front}
-use Rattle.mc_table8.specs.Table8.{byte_entry, plain_weight}
+use Rattle.mc_order.specs.WithoutContractions.{flat_map-split}
+use Rattle.mc_table8.specs.PlainWeights.{plain_weight}
+use Rattle.mc_table8.specs.Table8.{byte_entry}
 use Rattle.mc_table8.specs.Table8Meaning.{is_byte_set, entry_weights, char_weights, bytes_weights}
 
 take_rest : (xs : List ℕ) (n : ℕ) → take (length xs - n) (drop n xs) ≡ drop n xs
 take_rest xs n = take_all (length xs - n) (drop n xs) (omega (arith, length-drop n xs))
 
-split : (f : ℕ → List ℕ) (n : ℕ) (bytes : List ℕ) →
-    flat_map f bytes ≡ flat_map f (take n bytes) ++ flat_map f (drop n bytes)
-split f n bytes =
-    sym (ap (flat_map f) (take-append-drop n bytes)) ∙ flat_map-append f (take n bytes)
-    (drop n bytes)
+-- What two lists begin with decides nothing: a clause of `order_laws`.
+abbrev pub FrontDecidesNothing : Type 0
+FrontDecidesNothing =
+    (pad : Pad) (space : ℕ) (front a b : List ℕ) →
+    list_order pad space (front ++ a) (front ++ b) ≡ list_order pad space a b
 
 -- Bytes in front whose weights are the same decide nothing.
-pub behind_weights : (pad : Pad) (space : ℕ) (f : ℕ → List ℕ) (a b : List ℕ) (n : ℕ) →
+pub behind_weights : FrontDecidesNothing → (pad : Pad) (space : ℕ) (f : ℕ → List ℕ) (a b : List ℕ) (n : ℕ) →
     flat_map f (take n a) ≡ flat_map f (take n b) →
     list_order pad space (flat_map f (take (length a - n) (drop n a))) (flat_map f
     (take (length b - n) (drop n b)))
     ≡ list_order pad space (flat_map f a) (flat_map f b)
-behind_weights pad space f a b n e =
+behind_weights front pad space f a b n e =
     rw (take_rest a n, take_rest b n)
-    (sym (rw (split f n a, split f n b, e)
-    (list_order-front pad space (flat_map f (take n b)) (flat_map f (drop n a)) (flat_map f
+    (sym (rw (flat_map-split f n a, flat_map-split f n b, e)
+    (front pad space (flat_map f (take n b)) (flat_map f (drop n a)) (flat_map f
     (drop n b)))))
 
 -- What both texts begin with decides nothing.
-pub behind_bytes : (pad : Pad) (space : ℕ) (f : ℕ → List ℕ) (a b : List ℕ) (n : ℕ) →
+pub behind_bytes : FrontDecidesNothing → (pad : Pad) (space : ℕ) (f : ℕ → List ℕ) (a b : List ℕ) (n : ℕ) →
     take n a ≡ take n b →
     list_order pad space (flat_map f (take (length a - n) (drop n a))) (flat_map f
     (take (length b - n) (drop n b)))
     ≡ list_order pad space (flat_map f a) (flat_map f b)
-behind_bytes pad space f a b n e = behind_weights pad space f a b n (ap (flat_map f) e)
+behind_bytes front pad space f a b n e =
+    behind_weights front pad space f a b n (ap (flat_map f) e)
 
 -- One byte more of one weight, the same in both texts.
 one_weight : (entry : ℕ × Option ℕ) (weight : ℕ) → plain_weight entry ≡ weight → 0 < weight →

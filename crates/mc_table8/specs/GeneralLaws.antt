@@ -6,7 +6,7 @@ use Rattle.std.proofs.lemmas.List.Elements.{All-nil, All-cons}
 use Rattle.mc_charset.specs.declared.charset.Charset.{Charset}
 use Rattle.mc_order.specs.Meaning.{AreCharsOf}
 use Rattle.mc_order.specs.Laws.{KeepsSettings, IsWeight, IsCut, HasWeightPerChar, IsLawful}
-use Rattle.mc_order.specs.WithoutContractions.{without_tails, map-split, enough}
+use Rattle.mc_order.specs.WithoutContractions.{without_tails, map-split, map-enough}
 use Rattle.mc_table8.specs.General.{CodeTable, code_weight}
 use Rattle.mc_table8.specs.GeneralMeaning.{general_meaning, CodeCollation}
 
@@ -44,7 +44,7 @@ cut set table k codes =
       front = sym (append-nil (map f (take k codes)));
       whole = map-split f k codes;
       none_or_tail = inl refl;
-      enough = enough f k codes;
+      enough = map-enough f k codes;
     }
 
 per_char : (set : Charset) (table : CodeTable) → HasWeightPerChar (general_meaning set table)

@@ -11,6 +11,7 @@ pub mod Table8File
 pub mod GeneralFile
 pub mod WeightFileLaws
 pub mod Outcome
+pub mod PlainWeights
 pub mod Table8Meaning
 pub mod GeneralMeaning
 pub mod Table8Laws

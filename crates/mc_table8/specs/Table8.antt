@@ -1,5 +1,5 @@
 -- The weights of the bytes of a one-byte set: MySQL 8.0 manual, 10.14.3.
-use Rattle.std.specs.Prelude.{◌≡◌, ℕ, ◌+◌, ◌<◌, List, Option, Some, None, length, slice_index_or}
+use Rattle.std.specs.Prelude.{◌≡◌, ℕ, ◌<◌, List, Option, Some, None, length, slice_index_or}
 
 -- The weight of a byte in the table's entries, and the second one where it has two.
 abbrev pub byte_entry : List (ℕ × Option ℕ) → ℕ → ℕ × Option ℕ
@@ -8,16 +8,6 @@ byte_entry entries byte = slice_index_or entries byte (0, None)
 -- Each weight is a byte's.
 abbrev pub IsByteEntry : ℕ × Option ℕ → Type 0
 IsByteEntry entry = (entry.0 < 256) × ((second : ℕ) → entry.1 ≡ Some second → second < 256)
-
--- The weight of a byte that has one weight, plus 1; 0 where it has two.
-abbrev pub plain_weight : ℕ × Option ℕ → ℕ
-plain_weight (first, None) = first + 1
-plain_weight (first, Some second) = 0
-
--- A number for each of the 256 bytes: its plain weight.
-abbrev pub ArePlain : List ℕ → List (ℕ × Option ℕ) → Type 0
-ArePlain plain entries =
-    (byte : ℕ) → byte < 256 → slice_index_or plain byte 0 ≡ plain_weight (byte_entry entries byte)
 
 -- A table: one or two weights for each of the 256 bytes, and one alone for the space, 20.
 pub record ByteTable : Type 0 where

@@ -1,11 +1,8 @@
 -- The table8 collations keep the laws.
-use Rattle.std.proofs.Common.{◌≡◌, ◌⊎◌, ℕ, zero, suc, ◌+◌, ◌<◌, ◌≤◌, true, List, [], ◌∷◌, ◌++◌}
-use Rattle.std.proofs.Common.{Option, Some, None, length, take, drop, append-nil, length-append}
-use Rattle.std.proofs.Common.{refl, sym, ap, ◌∙◌, inl, inr, arith}
+use Rattle.std.proofs.Common.{◌≡◌, ◌≢◌, ℕ, ◌+◌, ◌<◌, ◌≤◌, true, List, [], ◌∷◌, ◌++◌, Option, Some}
+use Rattle.std.proofs.Common.{None, length, take, drop, append-nil, refl, sym, ap, ◌∙◌, inl, arith}
 use Rattle.std.specs.List.{All, flat_map}
 use Rattle.std.proofs.lemmas.List.Elements.{All-nil, All-cons, All-append}
-use Rattle.std.proofs.lemmas.Grind.{flat_map-append}
-use Rattle.std.proofs.lemmas.List.{take-append-drop}
 use Rattle.mc_charset.specs.declared.charset.Charset.{Charset}
 use Rattle.mc_charset.specs.declared.charset.Charset.TheVariants.{Latin1, Ascii, Utf8mb3, Utf8mb4}
 use Rattle.mc_charset.specs.declared.charset.Charset.TheVariants.{Ucs2, Utf16, Utf32, Binary}
@@ -13,7 +10,7 @@ use Rattle.mc_charset.specs.Chars.{spell}
 use Rattle.mc_order.specs.Bin.{first_byte}
 use Rattle.mc_order.specs.Meaning.{AreCharsOf}
 use Rattle.mc_order.specs.Laws.{KeepsSettings, IsWeight, IsCut, HasWeightPerChar, IsLawful}
-use Rattle.mc_order.specs.WithoutContractions.{without_tails}
+use Rattle.mc_order.specs.WithoutContractions.{without_tails, flat_map-split, flat_map-enough}
 use Rattle.mc_table8.specs.Table8.{ByteTable, byte_entry}
 use Rattle.mc_table8.specs.Table8Meaning.{is_byte_set, second_weight, entry_weights, char_weights}
 use Rattle.mc_table8.specs.Table8Meaning.{table8_meaning, ByteCollation}
@@ -79,40 +76,18 @@ bounds set table (c ∷ cs) =
     All-append (IsWeight (table8_meaning set table)) (char_weights set table.entries c) (flat_map
     (char_weights set table.entries) cs) (char_fits set table c) (bounds set table cs)
 
--- The weights of the first characters, and those of the rest.
-split : (f : ℕ → List ℕ) (k : ℕ) (codes : List ℕ) →
-    flat_map f codes ≡ flat_map f (take k codes) ++ flat_map f (drop k codes)
-split f k codes =
-    sym (ap (flat_map f) (take-append-drop k codes)) ∙ flat_map-append f (take k codes)
-    (drop k codes)
-
 -- Each character has a weight.
-has_weight : (set : Charset) (entries : List (ℕ × Option ℕ)) (code : ℕ) →
-    (first : ℕ) × (more : List ℕ) × (char_weights set entries code ≡ first ∷ more)
+some_weights : (set : Charset) (entries : List (ℕ × Option ℕ)) (code : ℕ) →
+    char_weights set entries code ≢ []
 unfolding char_weights
-has_weight set entries code =
-    let entry = byte_entry entries (first_byte (spell set code)) in
-    (entry.0 + 1, second_weight entry.1, refl)
+some_weights set entries code none = cc
 
-more : (weights rest : List ℕ) (k : ℕ) (P : Type 0) → 1 ≤ length weights → (k ≤ length rest) ⊎ P →
-    (suc k ≤ length (weights ++ rest)) ⊎ P
-more weights rest k P some (inl h) = inl (omega (arith, length-append weights rest))
-more weights rest k P some (inr h) = inr h
-
-some_weights : (weights more : List ℕ) (first : ℕ) → weights ≡ first ∷ more → 1 ≤ length weights
-some_weights weights more first e = let l = ap length e in omega arith
-
--- The first k characters have k weights or more, or all of them.
-enough : (set : Charset) (entries : List (ℕ × Option ℕ)) (k : ℕ) (codes : List ℕ) →
-    (k ≤ length (flat_map (char_weights set entries) (take k codes)))
-    ⊎ (flat_map (char_weights set entries) (drop k codes) ≡ [])
-enough set entries zero codes = inl (omega arith)
-enough set entries (suc k) [] = inr refl
-enough set entries (suc k) (c ∷ cs) =
-    let first = has_weight set entries c in
-    more (char_weights set entries c) (flat_map (char_weights set entries) (take k cs)) k
-    (flat_map (char_weights set entries) (drop k cs) ≡ []) (some_weights
-    (char_weights set entries c) first.1 first.0 first.2) (enough set entries k cs)
+all_some : (set : Charset) (entries : List (ℕ × Option ℕ)) (codes : List ℕ) →
+    All (λ code. char_weights set entries code ≢ []) codes
+all_some set entries [] = All-nil (λ code. char_weights set entries code ≢ [])
+all_some set entries (c ∷ cs) =
+    All-cons (λ code. char_weights set entries code ≢ []) c cs (some_weights set entries c)
+    (all_some set entries cs)
 
 cut : (set : Charset) (table : ByteTable) (k : ℕ) (codes : List ℕ) →
     IsCut (table8_meaning set table) k codes
@@ -122,16 +97,16 @@ cut set table k codes =
       tail = [];
       rest = flat_map f (drop k codes);
       front = sym (append-nil (flat_map f (take k codes)));
-      whole = split f k codes;
+      whole = flat_map-split f k codes;
       none_or_tail = inl refl;
-      enough = enough set table.entries k codes;
+      enough = flat_map-enough f k codes (all_some set table.entries codes);
     }
 
 per_char : (set : Charset) (table : ByteTable) → HasWeightPerChar (table8_meaning set table)
 per_char set table = (
   refl,
-  λ code c e. let h = has_weight set table.entries code in let n =
-      append-nil (char_weights set table.entries code) in cc,
+  λ code c e. some_weights set table.entries code
+      (sym (append-nil (char_weights set table.entries code)) ∙ e),
 )
 
 pub table8_lawful : (c : ByteCollation) → IsLawful (table8_meaning c.charset c.table)

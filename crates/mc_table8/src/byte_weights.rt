@@ -5,7 +5,7 @@ ghost use Rattle.std.specs.Prelude.{◌≡◌, ◌++◌, ◌≤◌, length, take
 
 use crate::Table8;
 use mc_base::{NoMemory, Weights};
-use mc_order::{Pad, WeightStream, compare_streams, put_weights, shared_bytes};
+use mc_order::{Pad, WeightStream, compare_streams, order_laws, put_weights, shared_bytes};
 use std::cmp::Ordering;
 
 /// The weights of a text of one-byte spellings, and the second weight of the byte just read.
@@ -60,6 +60,7 @@ pub(crate) fn compare_bytes(table: &Table8, a: &[u8], b: &[u8], space: u32) -> O
     ensures { let weights = bytes_weights table.now.entries in
         result ≡ list_order Padded space (weights a.now) (weights b.now) }
 {
+    order_laws();
     let start = shared_bytes(a, b);
     compare_plain(table, &a[start..], &b[start..], space)
 }
@@ -69,6 +70,7 @@ fn compare_plain(table: &Table8, a: &[u8], b: &[u8], space: u32) -> Ordering
     ensures { let weights = bytes_weights table.now.entries in
         result ≡ list_order Padded space (weights a.now) (weights b.now) }
 {
+    order_laws();
     let start = plain_front(table, a, b);
     let mut left = ByteWeights::new(table, &a[start..]);
     let mut right = ByteWeights::new(table, &b[start..]);

@@ -1,4 +1,5 @@
-ghost use Rattle.mc_table8.specs.Table8.{ArePlain, IsByteEntry, byte_entry, plain_weight};
+ghost use Rattle.mc_table8.specs.PlainWeights.{ArePlain, plain_weight};
+ghost use Rattle.mc_table8.specs.Table8.{IsByteEntry, byte_entry};
 ghost use Rattle.std.specs.Prelude.{◌≡◌, ℕ, ◌<◌, Some, None, length};
 
 use mc_base::List;

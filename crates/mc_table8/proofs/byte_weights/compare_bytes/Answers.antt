@@ -8,6 +8,6 @@ use Rattle.mc_table8.proofs.byte_weights.compare_bytes.Goals as goal
 pub returns : goal.returns
 returns c =
     c.compare_plain.ensures
-    ∙ behind_bytes Padded c.args.space
+    ∙ behind_bytes c.order_laws.ensures.front Padded c.args.space
     (λ byte. entry_weights (byte_entry c.args.table.now.entries byte)) c.args.a.now c.args.b.now _
     c.shared_bytes-start.ensures.same

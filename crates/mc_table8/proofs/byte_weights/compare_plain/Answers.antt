@@ -7,7 +7,7 @@ use Rattle.mc_table8.proofs.byte_weights.compare_plain.Goals as goal
 
 pub returns : goal.returns
 returns c =
-    let rest = behind_weights Padded c.args.space
+    let rest = behind_weights c.order_laws.ensures.front Padded c.args.space
     (λ byte. entry_weights (byte_entry c.args.table.now.entries byte)) c.args.a.now c.args.b.now _
     c.plain_front-start.ensures.same in
     let found = c.compare_streams.ensures in

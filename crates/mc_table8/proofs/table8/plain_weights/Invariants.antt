@@ -1,5 +1,6 @@
 use Rattle.std.proofs.Common.{◌≡◌, ℕ, ◌<◌, length, slice_index_or}
-use Rattle.mc_table8.specs.Table8.{byte_entry, plain_weight}
+use Rattle.mc_table8.specs.PlainWeights.{plain_weight}
+use Rattle.mc_table8.specs.Table8.{byte_entry}
 use Rattle.mc_table8.proofs.table8.plain_weights.Given as goal
 
 abbrev pub invariant-loop-byte : goal.invariant-loop-byte
