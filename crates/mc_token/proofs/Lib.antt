@@ -24,5 +24,6 @@ pub mod TokenLaws
 pub mod Cover
 pub mod Stops
 pub mod Keywords
+pub mod Introducers
 pub mod Parts
 pub mod Contents
