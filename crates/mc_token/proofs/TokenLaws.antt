@@ -262,7 +262,7 @@ all-of : (lexed : Result (List Token) LexFault) (tokens : List Token) → limite
 all-of (Ok all) tokens e = ap Ok (limited-Ok (nat_le (length all) token_limit) all tokens refl e)
 all-of (Err fault) tokens e = absurd (cc)
 
-statement-tokens : (script : List ℕ) (statement : Span) (tokens : List Token)
+pub statement-tokens : (script : List ℕ) (statement : Span) (tokens : List Token)
     → tokens_of script statement ≡ Ok tokens → all_tokens script statement ≡ Ok tokens
 unfolding tokens_of
 statement-tokens script statement tokens e = all-of (all_tokens script statement) tokens e
