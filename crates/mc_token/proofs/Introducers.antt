@@ -1,5 +1,5 @@
 -- The set that is named so, in lower case, by the one that is named so in either case.
-use Rattle.std.proofs.Common.{◌≡◌, ℕ, ◌||◌, Bool, true, false, List, [], ◌∷◌, Option, Some, None, cond, refl, ap, sym, ◌∙◌, arith}
+use Rattle.std.proofs.Common.{◌≡◌, ℕ, ◌||◌, Bool, true, false, List, [], ◌∷◌, None, cond, refl, ap, sym, ◌∙◌, arith}
 use Rattle.std.specs.Prelude.{map, option_map}
 use Rattle.std.specs.Char.{is_ascii_uppercase, to_ascii_lowercase}
 use Rattle.std.specs.List.{AllByRecursion, find, list_any}

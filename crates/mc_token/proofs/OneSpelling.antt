@@ -1,5 +1,5 @@
 -- One token alone is spelled by a front of some bytes.
-use Rattle.std.proofs.Common.{◌≡◌, ℕ, List, ◌++◌, Some, length, take, ap, sym, ◌∙◌}
+use Rattle.std.proofs.Common.{◌≡◌, ℕ, List, ◌++◌, length, take, ap, sym, ◌∙◌}
 use Rattle.std.proofs.Math.Seq.{take-append_seam}
 use Rattle.std.proofs.lemmas.Option.{same_Some}
 use Rattle.mc_token.specs.Spelled.{IsSpelled}

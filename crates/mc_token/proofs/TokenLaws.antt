@@ -1,5 +1,5 @@
 -- The laws of the tokens of a statement, by what begins at a byte.
-use Rattle.std.proofs.Common.{◌≡◌, ℕ, ◌+◌, ◌-◌, ◌<◌, ◌≤◌, Bool, true, false, List, [], ◌∷◌, ◌++◌, Option, Some, None, Result, Ok, Err, length, take, drop, get_or, leb, suc, zero, inl, inr, ◌⊎◌, refl, ap, sym, subst, ◌∙◌, length-append, append_assoc, arith}
+use Rattle.std.proofs.Common.{◌≡◌, ℕ, ◌+◌, ◌-◌, ◌<◌, ◌≤◌, Bool, true, false, List, [], ◌∷◌, ◌++◌, Some, Result, Ok, Err, length, take, drop, get_or, leb, suc, zero, inl, inr, ◌⊎◌, refl, ap, sym, subst, ◌∙◌, length-append, append_assoc, arith}
 use Rattle.std.specs.Prelude.{nat_le}
 use Rattle.std.specs.Str.{IsUtf8}
 use Rattle.std.proofs.Math.Seq.{take-append_seam, get_or-append_seam}

@@ -1,6 +1,6 @@
 -- The words that the grammar asks for by name, and what a parser asks of a token: MySQL 8.0 manual,
 -- 9.3.
-use Rattle.std.specs.Prelude.{◌≡◌, ◌≢◌, ℕ, ◌==◌, Bool, true, false, List, [], ◌∷◌, Option, codes}
+use Rattle.std.specs.Prelude.{ℕ, ◌==◌, Bool, true, false, List, [], ◌∷◌, Option, codes}
 use Rattle.std.specs.Prelude.{length, find, if◌then◌else◌}
 use Rattle.std.specs.Str.{bytes_eq}
 use Rattle.mc_token.specs.declared.keyword.Keyword.{Keyword}
