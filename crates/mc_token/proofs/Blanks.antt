@@ -1,6 +1,5 @@
 -- How long the space or the comment is that a byte begins.
 use Rattle.std.proofs.Common.{◌≡◌, ℕ, ◌+◌, ◌==◌, ◌||◌, Bool, true, false, cond, List, ◌∷◌, Option, Some, None, drop, refl, ap, sym, ◌∙◌}
-use Rattle.std.proofs.lemmas.Bool.{eqb-true}
 use Rattle.mc_token.specs.Bytes.{is_space, double_quote, single_quote, slash, semicolon, star}
 use Rattle.mc_token.specs.Elements.{line_len, opens_line, opens_block, block_end, quote_end, single, closed, element_of}
 use Rattle.mc_token.specs.Tokens.{is_blank, blank_len}

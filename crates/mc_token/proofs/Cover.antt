@@ -1,13 +1,12 @@
 -- The tokens of a statement cover it, and no others do.
-use Rattle.std.proofs.Common.{◌≡◌, ℕ, ◌+◌, ◌-◌, ◌<◌, ◌≤◌, true, false, Bool, ◌⊎◌, inl, inr, List, [], ◌∷◌, ◌++◌, length, take, drop, cond, Option, Some, None, Result, Ok, Err, suc, zero, refl, ap, sym, subst, subst₂, append-nil, length-append, ◌∙◌, arith}
+use Rattle.std.proofs.Common.{◌≡◌, ℕ, ◌+◌, ◌-◌, ◌<◌, ◌≤◌, true, false, Bool, ◌⊎◌, inl, inr, List, [], ◌∷◌, ◌++◌, length, take, drop, cond, Some, None, Result, Ok, Err, suc, zero, refl, ap, sym, subst, subst₂, append-nil, length-append, ◌∙◌, arith}
 use Rattle.std.proofs.Math.Seq.{take-append_seam, drop-append_seam}
-use Rattle.std.proofs.lemmas.List.{take-append-drop, length-take-le, length-drop}
+use Rattle.std.proofs.lemmas.List.{take-append-drop, length-take-le}
 use Rattle.mc_base.specs.declared.span.Span.{Span}
 use Rattle.mc_token.specs.Comments.{OpensLine}
-use Rattle.mc_token.specs.Cut.{IsElement, Takes}
+use Rattle.mc_token.specs.Cut.{Takes}
 use Rattle.mc_token.specs.Elements.{element_of, line_len}
 use Rattle.mc_token.specs.Spellings.{spelling_of}
-use Rattle.mc_token.specs.Spelled.{IsSpelled}
 use Rattle.mc_token.specs.Lexemes.{lexeme_of}
 use Rattle.mc_token.specs.Tokens.{is_blank, blank_len, with_front, token_of, piece_of, tokens_behind, tokens_in}
 use Rattle.mc_token.specs.Cover.{AreBlanks, IsToken, Begins, Cover, AreTokens}

@@ -1,6 +1,6 @@
 -- The tokens from a place of the script on, by the piece that begins there.
-use Rattle.std.proofs.Common.{◌≡◌, ℕ, ◌+◌, ◌-◌, ◌<◌, ◌≤◌, true, false, List, [], ◌∷◌, ◌++◌, Option, Some, None, Result, Ok, Err, length, drop, get_or, suc, zero, refl, ap, sym, append_assoc, append-nil, length-append, leb, ◌∙◌, arith}
-use Rattle.std.proofs.lemmas.List.{at_drop_more, drop_more, drop-drop}
+use Rattle.std.proofs.Common.{◌≡◌, ℕ, ◌+◌, ◌-◌, ◌<◌, ◌≤◌, true, false, List, [], ◌∷◌, ◌++◌, Result, Ok, Err, length, drop, get_or, suc, zero, refl, ap, sym, append_assoc, append-nil, length-append, leb, ◌∙◌, arith}
+use Rattle.std.proofs.lemmas.List.{drop_more, drop-drop}
 use Rattle.std.proofs.lemmas.Bool.Decides.{nat_tests}
 use Rattle.mc_token.specs.Pieces.{HasRoom, MeansTokens}
 use Rattle.mc_token.specs.Tokens.{with_front, token_of, piece_of, tokens_behind, tokens_in, limited, token_limit, fault_of, IsCause}

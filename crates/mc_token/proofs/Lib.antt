@@ -12,6 +12,7 @@ pub mod Numbers
 pub mod SpelledFound
 pub mod SpelledFirst
 pub mod SpelledOne
+pub mod OneSpelling
 pub mod CutExists
 pub mod CutWhole
 pub mod Statements
@@ -23,6 +24,8 @@ pub mod TokenLawsCuts
 pub mod TokenLaws
 pub mod Cover
 pub mod Stops
+pub mod Folded
 pub mod Keywords
+pub mod Introducers
 pub mod Parts
 pub mod Contents

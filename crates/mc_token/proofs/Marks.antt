@@ -1,14 +1,13 @@
 -- The mark found is the longest one that begins the bytes.
-use Rattle.std.proofs.Common.{◌≡◌, ℕ, ◌+◌, ◌≤◌, ◌==◌, Bool, true, false, cond, inl, inr, List, [], ◌∷◌, ◌++◌, Option, Some, None, length, take, drop, get_or, suc, refl, ap, sym, subst, ◌∙◌, arith}
+use Rattle.std.proofs.Common.{◌≡◌, ℕ, ◌≤◌, ◌==◌, Bool, true, false, cond, inl, inr, List, [], ◌∷◌, ◌++◌, Option, Some, None, length, take, drop, get_or, refl, ap, sym, subst, ◌∙◌, arith}
 use Rattle.std.proofs.lemmas.Bool.{eqb-true}
 use Rattle.std.proofs.lemmas.Option.{same_Some}
 use Rattle.std.proofs.Math.Seq.{take-append_seam}
 use Rattle.mc_token.specs.Bytes.{is_space, exclamation, percent, left_paren, right_paren, star, plus, comma, dash, dot, slash, less, equals, greater}
-use Rattle.mc_token.specs.Marks.{mark_text, IsMark, less_mark, greater_mark, bang_mark, byte_mark, mark_of}
+use Rattle.mc_token.specs.Marks.{mark_text, IsMark, less_mark, greater_mark, byte_mark, mark_of}
 use Rattle.mc_token.specs.declared.lexeme.Symbol.{Symbol}
 use Rattle.mc_token.specs.declared.lexeme.Symbol.TheVariants.{LeftParen, RightParen, Comma, Dot, Star, Plus, Minus, Percent, Eq, Ne, NeBang, Lt, Le, Gt, Ge, NullEq}
 use Rattle.mc_token.proofs.Choices.{which}
-use Rattle.mc_token.proofs.CutOpenings.{same_first}
 use Rattle.mc_token.proofs.SpelledRuns.{first_of}
 
 -- This mark begins the bytes.

@@ -1,10 +1,9 @@
 -- The statements of the elements are those of the parts between the semicolons.
-use Rattle.std.proofs.Common.{◌≡◌, ℕ, ◌+◌, Bool, true, false, not, ◌||◌, cond, List, [], ◌∷◌, ◌++◌, length, take, drop, suc, refl, ap, sym, subst, ◌∙◌, arith}
-use Rattle.std.specs.List.{list_any, slice_split, onto_first, prefix_len, AllByRecursion}
+use Rattle.std.proofs.Common.{◌≡◌, ℕ, ◌+◌, Bool, true, false, not, ◌||◌, cond, List, [], ◌∷◌, ◌++◌, length, take, drop, suc, refl, ap, sym, ◌∙◌, arith}
+use Rattle.std.specs.List.{list_any, onto_first, prefix_len, AllByRecursion}
 use Rattle.std.specs.Prelude.{take_while}
 use Rattle.std.proofs.lemmas.List.Splits.{slice_split-cons_yes, slice_split-cons_no}
 use Rattle.mc_base.specs.declared.span.Span.{Span}
-use Rattle.mc_token.specs.Bytes.{semicolon}
 use Rattle.mc_token.specs.Cut.{IsElement, Cut}
 use Rattle.mc_token.specs.Elements.{elements}
 use Rattle.mc_token.specs.Parts.{len_of, parts_of, statement_of, statements_of}

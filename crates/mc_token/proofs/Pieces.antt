@@ -1,10 +1,8 @@
 -- What a piece says of its byte, and which piece a byte begins.
 use Rattle.std.proofs.Common.{◌≡◌, ℕ, ◌≤◌, Bool, true, false, cond, List, Option, Some, None, leb, refl, ap, sym, subst, ◌∙◌, arith}
 use Rattle.std.proofs.lemmas.Bool.Decides.{nat_tests}
-use Rattle.std.proofs.lemmas.Option.{same_Some}
-use Rattle.mc_token.specs.Elements.{element_of}
 use Rattle.mc_token.specs.Spellings.{spelling_of}
-use Rattle.mc_token.specs.Tokens.{is_blank, blank_len, token_within, piece_of}
+use Rattle.mc_token.specs.Tokens.{blank_len, token_within, piece_of}
 use Rattle.mc_token.specs.declared.piece.Piece.{Piece}
 use Rattle.mc_token.specs.declared.piece.Piece.TheVariants.{Blank, Begun, Nothing}
 use Rattle.mc_token.specs.declared.spelling.Spelling.{Spelling}

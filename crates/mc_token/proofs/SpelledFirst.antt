@@ -1,11 +1,11 @@
 -- A token has a byte or more, and the first is no space.
-use Rattle.std.proofs.Common.{◌≡◌, ◌≢◌, ℕ, ◌+◌, ◌<◌, ◌≤◌, ◌==◌, ◌&&◌, false, true, inl, inr, List, [], ◌∷◌, ◌++◌, Option, Some, None, length, ap, sym, subst, refl, length-append, ◌∙◌, arith}
+use Rattle.std.proofs.Common.{◌≡◌, ◌≢◌, ℕ, ◌+◌, ◌<◌, ◌≤◌, ◌==◌, ◌&&◌, false, true, inl, inr, List, [], ◌∷◌, ◌++◌, Some, None, length, ap, refl, length-append, ◌∙◌, arith}
 use Rattle.std.specs.Char.{is_ascii_digit}
 use Rattle.std.proofs.lemmas.Bool.Decides.{nat_tests}
 use Rattle.mc_token.specs.Bytes.{is_space, begins_word, is_letter_n, is_letter_x, small_x, digit_zero, single_quote, backquote, slash}
 use Rattle.mc_token.specs.Comments.{OpensLine}
 use Rattle.mc_token.specs.Elements.{opens_line, opens_block, is_block_comment}
-use Rattle.mc_token.specs.Marks.{mark_text, IsMark}
+use Rattle.mc_token.specs.Marks.{IsMark}
 use Rattle.mc_token.specs.Strings.{IsQuote}
 use Rattle.mc_token.specs.Spellings.{spelling_of}
 use Rattle.mc_token.specs.Spelled.{AreAll, IsSpelled}

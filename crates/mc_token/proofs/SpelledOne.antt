@@ -1,5 +1,5 @@
 -- The spelling of a token is the one found.
-use Rattle.std.proofs.Common.{◌≡◌, ◌≢◌, ℕ, ℤ, ◌+◌, ◌<◌, ◌≤◌, ◌%◌, ◌==◌, ◌||◌, ◌&&◌, not, Bool, true, false, inl, inr, List, [], ◌∷◌, ◌++◌, Option, Some, None, length, take, drop, get_or, ltb, leb, suc, refl, ap, sym, subst, append_assoc, length-append, ◌∙◌, arith}
+use Rattle.std.proofs.Common.{◌≡◌, ◌≢◌, ℕ, ℤ, ◌+◌, ◌<◌, ◌≤◌, ◌%◌, ◌==◌, ◌||◌, ◌&&◌, Bool, true, false, inl, inr, List, [], ◌∷◌, ◌++◌, Option, Some, None, length, drop, get_or, ltb, leb, refl, ap, sym, subst, append_assoc, length-append, ◌∙◌, arith}
 use Rattle.std.specs.Prelude.{option_map}
 use Rattle.std.specs.Char.{is_ascii_digit, is_ascii_hexdigit}
 use Rattle.std.proofs.Math.Seq.{take-append_seam}
@@ -8,7 +8,7 @@ use Rattle.mc_token.specs.Bytes.{begins_word, continues_word, is_letter_n, is_le
 use Rattle.mc_token.specs.Elements.{quote_end}
 use Rattle.mc_token.specs.Hexadecimal.{digits_len}
 use Rattle.mc_token.specs.Strings.{IsQuote, IsString}
-use Rattle.mc_token.specs.Marks.{mark_text, IsMark, mark_of}
+use Rattle.mc_token.specs.Marks.{mark_text, IsMark}
 use Rattle.mc_token.specs.Numbers.{decimals_len, int_of}
 use Rattle.mc_token.specs.Spellings.{word_len, opens_single, opens_hex, string_spelling, hex_string_spelling, hex_number_spelling, int_spelling, closes_name, name_spelling, mark_spelling, spelling_of}
 use Rattle.mc_token.specs.Spelled.{AreAll, EndOrNo, OpensPrefixed, name_limit, IsWord, IsName, IsInt, IsNational, IsHexString, IsHexNumber, IsSpelled}

@@ -1,8 +1,8 @@
 -- Where the tokens of a statement stop, nothing begins.
-use Rattle.std.proofs.Common.{◌≡◌, ℕ, ◌+◌, ◌-◌, ◌<◌, ◌≤◌, true, false, inl, inr, List, [], ◌∷◌, ◌++◌, length, take, drop, Option, Some, None, Result, Ok, Err, suc, zero, refl, ap, sym, subst, ◌∙◌, arith}
+use Rattle.std.proofs.Common.{◌≡◌, ℕ, ◌+◌, ◌-◌, ◌<◌, ◌≤◌, true, inl, inr, List, [], ◌∷◌, ◌++◌, length, take, drop, Result, Ok, Err, suc, zero, refl, ap, sym, subst, ◌∙◌, arith}
 use Rattle.std.proofs.lemmas.List.{take-append-drop, length-take-le}
 use Rattle.mc_token.specs.Cut.{Takes}
-use Rattle.mc_token.specs.Cover.{IsToken, Cover, StopsAt}
+use Rattle.mc_token.specs.Cover.{IsToken, StopsAt}
 use Rattle.mc_token.specs.Elements.{element_of}
 use Rattle.mc_token.specs.Tokens.{is_blank, with_front, token_of, piece_of, tokens_behind, tokens_in}
 use Rattle.mc_token.specs.declared.element.Element.{Element}

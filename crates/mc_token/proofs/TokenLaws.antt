@@ -1,5 +1,5 @@
 -- The laws of the tokens of a statement, by what begins at a byte.
-use Rattle.std.proofs.Common.{◌≡◌, ℕ, ◌+◌, ◌-◌, ◌<◌, ◌≤◌, Bool, true, false, List, [], ◌∷◌, ◌++◌, Option, Some, None, Result, Ok, Err, length, take, drop, get_or, leb, suc, zero, inl, inr, ◌⊎◌, refl, ap, sym, subst, ◌∙◌, length-append, append_assoc, arith}
+use Rattle.std.proofs.Common.{◌≡◌, ℕ, ◌+◌, ◌-◌, ◌<◌, ◌≤◌, Bool, true, false, List, [], ◌∷◌, ◌++◌, Some, Result, Ok, Err, length, take, drop, get_or, leb, suc, zero, inl, inr, ◌⊎◌, refl, ap, sym, subst, ◌∙◌, length-append, append_assoc, arith}
 use Rattle.std.specs.Prelude.{nat_le}
 use Rattle.std.specs.Str.{IsUtf8}
 use Rattle.std.proofs.Math.Seq.{take-append_seam, get_or-append_seam}
@@ -262,7 +262,7 @@ all-of : (lexed : Result (List Token) LexFault) (tokens : List Token) → limite
 all-of (Ok all) tokens e = ap Ok (limited-Ok (nat_le (length all) token_limit) all tokens refl e)
 all-of (Err fault) tokens e = absurd (cc)
 
-statement-tokens : (script : List ℕ) (statement : Span) (tokens : List Token)
+pub statement-tokens : (script : List ℕ) (statement : Span) (tokens : List Token)
     → tokens_of script statement ≡ Ok tokens → all_tokens script statement ≡ Ok tokens
 unfolding tokens_of
 statement-tokens script statement tokens e = all-of (all_tokens script statement) tokens e

@@ -1,6 +1,6 @@
 -- The words that the grammar asks for by name, and what a parser asks of a token: MySQL 8.0 manual,
 -- 9.3.
-use Rattle.std.specs.Prelude.{◌≡◌, ◌≢◌, ℕ, ◌==◌, Bool, true, false, List, [], ◌∷◌, Option, codes}
+use Rattle.std.specs.Prelude.{ℕ, ◌==◌, Bool, true, false, List, [], ◌∷◌, Option, codes}
 use Rattle.std.specs.Prelude.{length, find, if◌then◌else◌}
 use Rattle.std.specs.Str.{bytes_eq}
 use Rattle.mc_token.specs.declared.keyword.Keyword.{Keyword}
@@ -62,14 +62,43 @@ keyword_text WeightString = codes "weight_string"
 
 -- The keyword is a name only between backquotes.
 abbrev pub is_reserved : Keyword → Bool
-is_reserved Offset = false
-is_reserved Escape = false
-is_reserved Cast = false
-is_reserved Count = false
-is_reserved Trim = false
-is_reserved Substring = false
-is_reserved WeightString = false
-is_reserved _ = true
+is_reserved Select = true
+is_reserved Distinct = true
+is_reserved From = true
+is_reserved Where = true
+is_reserved Group = true
+is_reserved By = true
+is_reserved Order = true
+is_reserved Asc = true
+is_reserved Desc = true
+is_reserved Limit = true
+is_reserved As = true
+is_reserved And = true
+is_reserved Or = true
+is_reserved Xor = true
+is_reserved Not = true
+is_reserved Is = true
+is_reserved Null = true
+is_reserved Like = true
+is_reserved In = true
+is_reserved Between = true
+is_reserved Collate = true
+is_reserved Div = true
+is_reserved Mod = true
+is_reserved Explain = true
+is_reserved Convert = true
+is_reserved Using = true
+is_reserved True = true
+is_reserved False = true
+is_reserved Character = true
+is_reserved Set = true
+is_reserved Char = true
+is_reserved Binary = true
+is_reserved Both = true
+is_reserved Leading = true
+is_reserved Trailing = true
+is_reserved For = true
+is_reserved _ = false
 
 -- The keywords that have so many letters.
 abbrev pub keywords_of_len : ℕ → List Keyword

@@ -98,6 +98,8 @@ fn element_of(first: u8, behind: &[u8]) -> Element
 }
 
 /// How many bytes the space or the closed comment has that this byte begins, if it begins one.
+// The branches of `element_of` that may be blank: by `element_of` a string would be scanned here,
+// and once more for its token.
 #[tactic(auto, using(crate::proofs::Blanks::blank_steps))]
 pub fn blank_len(first: u8, behind: &[u8]) -> Option<usize>
     ensures value { result ≡ blank_len first behind.now }

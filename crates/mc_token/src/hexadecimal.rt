@@ -22,6 +22,7 @@ pub fn bytes_of_digits(alloc: Global, digits: &[u8]) -> Result<Text, NoMemory>
     ensures { IfOk result (λ text. text ≡ bytes_of_digits digits.now) }
 {
     let mut text = Text::new(alloc);
+    text.reserve(digits.len() / 2 + digits.len() % 2)?;
     if digits.len() % 2 == 1 {
         text.push(digit_value(digits[0]))?;
         push_pairs(&mut text, &digits[1..])?;

@@ -168,15 +168,44 @@ impl Keyword {
     pub fn is_reserved(self) -> bool
         ensures { result ≡ is_reserved self }
     {
-        !matches!(
+        matches!(
             self,
-            Keyword::Offset
-                | Keyword::Escape
-                | Keyword::Cast
-                | Keyword::Count
-                | Keyword::Trim
-                | Keyword::Substring
-                | Keyword::WeightString
+            Keyword::Select
+                | Keyword::Distinct
+                | Keyword::From
+                | Keyword::Where
+                | Keyword::Group
+                | Keyword::By
+                | Keyword::Order
+                | Keyword::Asc
+                | Keyword::Desc
+                | Keyword::Limit
+                | Keyword::As
+                | Keyword::And
+                | Keyword::Or
+                | Keyword::Xor
+                | Keyword::Not
+                | Keyword::Is
+                | Keyword::Null
+                | Keyword::Like
+                | Keyword::In
+                | Keyword::Between
+                | Keyword::Collate
+                | Keyword::Div
+                | Keyword::Mod
+                | Keyword::Explain
+                | Keyword::Convert
+                | Keyword::Using
+                | Keyword::True
+                | Keyword::False
+                | Keyword::Character
+                | Keyword::Set
+                | Keyword::Char
+                | Keyword::Binary
+                | Keyword::Both
+                | Keyword::Leading
+                | Keyword::Trailing
+                | Keyword::For
         )
     }
 }

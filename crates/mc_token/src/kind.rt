@@ -1,7 +1,7 @@
-ghost use Rattle.std.specs.Prelude.{◌≡◌, ◌≢◌};
-ghost use Rattle.mc_token.specs.Keywords.{keyword_text};
-ghost use Rattle.mc_token.specs.Kinds.{introduced_set, IsKind};
-ghost use Rattle.mc_token.specs.declared.keyword.Keyword.{Keyword};
+ghost use Rattle.std.specs.Prelude.{◌≡◌};
+ghost use Rattle.std.specs.Char.{is_ascii_uppercase};
+ghost use Rattle.std.specs.List.{list_any};
+ghost use Rattle.mc_token.specs.Kinds.{introduced_set, set_spelled, IsKind, IsNoKeyword};
 
 use crate::keyword::keyword_named;
 use crate::{Keyword, Lexeme, Symbol};
@@ -30,7 +30,7 @@ pub enum TokenKind {
     Sym(Symbol),
 }
 
-/// What a lexeme is. Its words are compared here, and nowhere behind.
+/// What a lexeme is, for a parser: its words are compared once.
 pub fn kind_of(lexeme: &Lexeme) -> TokenKind
     ensures { IsKind result lexeme.now }
 {
@@ -57,7 +57,7 @@ fn kind_of_word(word: &[u8]) -> TokenKind
 
 /// What a word is that is no keyword.
 fn kind_of_other_word(word: &[u8]) -> TokenKind
-    requires { (keyword : Keyword) → word.now ≢ keyword_text keyword }
+    requires { IsNoKeyword word.now }
     ensures { IsKind result (Lexeme.Word word.now) }
 {
     match introduced_set(word) {
@@ -71,7 +71,25 @@ fn introduced_set(word: &[u8]) -> Option<Charset>
     ensures { result ≡ introduced_set word.now }
 {
     match word {
-        [b'_', name @ ..] => charset_by_name(name),
+        [b'_', name @ ..] => set_spelled(name),
         _ => None,
     }
+}
+
+/// The character set that is named so, in lower case.
+#[tactic(auto, using(crate::proofs::Introducers::spelled_by))]
+fn set_spelled(name: &[u8]) -> Option<Charset>
+    ensures { result ≡ set_spelled name.now }
+{
+    if has_capital(name) {
+        return None;
+    }
+    charset_by_name(name)
+}
+
+/// Whether a letter from A to Z is among these bytes.
+fn has_capital(bytes: &[u8]) -> bool
+    ensures { result ≡ list_any is_ascii_uppercase bytes.now }
+{
+    bytes.iter().any(|byte| byte.is_ascii_uppercase())
 }

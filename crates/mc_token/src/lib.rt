@@ -3,7 +3,7 @@
 //!
 //! `next_statement(script, from)` gives the first statement from a byte on, and
 //! `tokens(alloc, script, statement)` its tokens, or the byte where none begins. Both are linear.
-//! `kind_of` tells once what a parser asks of a token, its keyword among it.
+//! `kind_of` is for a parser: what it asks of a token, its keyword among it.
 //!
 //! In reading order: `element` cuts a script into spaces, comments, strings and semicolons, and
 //! `statement` its elements into statements, with their laws in `cutting`. `lexeme` has the types

@@ -59,6 +59,7 @@ fn folded(alloc: Global, bytes: &[u8]) -> Result<Text, NoMemory>
     ensures { IfOk result (λ text. text ≡ map to_ascii_lowercase bytes.now) }
 {
     let mut text = Text::new(alloc);
+    text.reserve(bytes.len())?;
     for byte in bytes {
         text.push(byte.to_ascii_lowercase())?;
     }

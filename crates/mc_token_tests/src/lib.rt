@@ -1,5 +1,5 @@
 //! Tests of `mc_token` by its public calls, worked out by hand from the language's rules: what each
-//! spelling reads as, and where statements are cut. They stand in a crate of their own, since a
+//! spelling reads as, of what kind it is, and where statements are cut. They stand in a crate of their own, since a
 //! crate is proved once more with its tests.
 #![tactic(auto)]
 
@@ -9,6 +9,10 @@ mod comments;
 mod counts;
 #[cfg(test)]
 mod cuts;
+#[cfg(test)]
+mod keywords;
+#[cfg(test)]
+mod kinds;
 #[cfg(test)]
 mod marks;
 #[cfg(test)]

@@ -11,7 +11,7 @@ struct Script {
     written: &'static [u8],
 }
 
-const SCRIPTS: [Script; 24] = [
+const SCRIPTS: [Script; 26] = [
     Script {
         why: "each character in latin1",
         script: b"SELECT HEX(CONVERT('\xc3\xa9\xe2\x82\xac' USING latin1));",
@@ -131,6 +131,18 @@ const SCRIPTS: [Script; 24] = [
         script: b"SELECT 'a' COLLATE utf8mb4_0900_bin = 'a ';SELECT 'a ' = 'a' COLLATE utf8mb4_bin;",
         status: Status::Done,
         written: b"'a' COLLATE utf8mb4_0900_bin = 'a '\n0\n'a ' = 'a' COLLATE utf8mb4_bin\n1\n",
+    },
+    Script {
+        why: "a comment inside a statement, with a semicolon",
+        script: b"SELECT 'a' /* ; */ = 'a';",
+        status: Status::Done,
+        written: b"'a' /* ; */ = 'a'\n1\n",
+    },
+    Script {
+        why: "a collation's name between backquotes, in either case",
+        script: b"SELECT 'a' COLLATE `utf8mb4_BIN` = 'a ';",
+        status: Status::Done,
+        written: b"'a' COLLATE `utf8mb4_BIN` = 'a '\n1\n",
     },
     Script {
         why: "no collation of this name",

@@ -1,6 +1,8 @@
 use Rattle.std.proofs.Common.{drop, arith}
 use Rattle.std.proofs.lemmas.List.{length-drop}
 use Rattle.mc_token.proofs.TokenLaws.{tokens-order, tokens-texts}
+use Rattle.mc_token.proofs.Folded.{tokens-folded}
+use Rattle.mc_token.proofs.OneSpelling.{one_spelling}
 use Rattle.mc_token.proofs.HexDigits.{bytes-digits}
 use Rattle.mc_token.proofs.Cover.{tokens_cover, cover_is_tokens}
 use Rattle.mc_token.proofs.Stops.{tokens_stop, stop_is_fault}
@@ -12,6 +14,12 @@ returns-clause-in_order c = tokens-order
 
 pub returns-clause-texts : goal.returns-clause-texts
 returns-clause-texts c = tokens-texts
+
+pub returns-clause-folded : goal.returns-clause-folded
+returns-clause-folded c = tokens-folded
+
+pub returns-clause-one_spelling : goal.returns-clause-one_spelling
+returns-clause-one_spelling c = one_spelling
 
 pub returns-clause-cover : goal.returns-clause-cover
 returns-clause-cover c = λ script statement tokens begins ends.

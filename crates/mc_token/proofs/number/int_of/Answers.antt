@@ -1,5 +1,5 @@
-use Rattle.std.proofs.Common.{◌+◌, ◌-◌, ◌*◌, get_or, sym, arith}
-use Rattle.mc_token.proofs.Numbers.{value-step, is_digit, too_great}
+use Rattle.std.proofs.Common.{◌+◌, ◌-◌, ◌*◌, get_or, arith}
+use Rattle.mc_token.proofs.Numbers.{value-step, too_great}
 use Rattle.mc_token.proofs.number.int_of.Goals as goal
 
 -- With one more digit the value is too great.

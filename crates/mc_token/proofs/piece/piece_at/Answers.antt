@@ -1,4 +1,4 @@
-use Rattle.std.proofs.Common.{◌+◌, ◌-◌, drop, get_or, length, take, ap, ◌∙◌, arith}
+use Rattle.std.proofs.Common.{◌-◌, drop, get_or, length, ap, ◌∙◌, arith}
 use Rattle.std.proofs.lemmas.List.{take_all, length-drop, get_or-drop, drop-drop}
 use Rattle.mc_token.specs.Tokens.{piece_of}
 use Rattle.mc_token.proofs.Lexing.{means-by}

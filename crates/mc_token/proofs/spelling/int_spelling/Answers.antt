@@ -2,7 +2,6 @@ use Rattle.std.proofs.Common.{get_or, ap, sym, ◌∙◌}
 use Rattle.std.specs.Prelude.{option_map}
 use Rattle.mc_token.specs.Bytes.{continues_word}
 use Rattle.mc_token.specs.Numbers.{decimals_len}
-use Rattle.mc_token.specs.declared.spelling.Shape.TheVariants.{Int}
 use Rattle.mc_token.proofs.Elements.{behind_of}
 use Rattle.mc_token.proofs.Numbers.{digits-taken, int_spelling-is}
 use Rattle.mc_token.proofs.spelling.int_spelling.Goals as goal
