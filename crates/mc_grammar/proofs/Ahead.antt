@@ -2,7 +2,8 @@
 use Rattle.std.proofs.Common.{◌≡◌, ◌⊎◌, inl, inr, ◌&&◌, ◌||◌, not, Bool, true, false, List, [], ◌∷◌, ◌++◌, refl, sym, ap, ◌∙◌, append_assoc, Option, Some, None, IsTrue, subst}
 use Rattle.mc_grammar.specs.Grammar.{Grammar, Symbol, one, rule}
 use Rattle.mc_grammar.specs.Reading.{Forest, bare, leaf, node, tokens_of, IsOneOf, Fits}
-use Rattle.mc_grammar.specs.Ahead.{Ahead, Tables, Meets, Begins, StandsBehind, MeetsWhole, BeginsWhole, is_behind, every, any_of, are_apart_next, is_within_next, exclude, is_part, when, may_be_none, starts, is_followed, is_covered, Covers}
+use Rattle.std.specs.List.{list_any}
+use Rattle.mc_grammar.specs.Ahead.{Ahead, Tables, Meets, Begins, StandsBehind, MeetsWhole, BeginsWhole, is_behind, every, are_apart_next, is_within_next, exclude, is_part, when, may_be_none, starts, is_followed, is_covered, Covers}
 
 pub both : (a b : Bool) → IsTrue (a && b) → IsTrue a × IsTrue b
 both true b h = (refl, h)
@@ -12,7 +13,7 @@ pub chosen : (a b : Bool) → IsTrue (elim a [ true ↦ b | false ↦ false ]) �
 chosen true b h = (refl, h)
 chosen false b h = absurd (cc)
 
-pub either : (a b : Bool) → IsTrue (elim a [ true ↦ true | false ↦ b ]) → IsTrue a ⊎ IsTrue b
+pub either : (a b : Bool) → IsTrue (a || b) → IsTrue a ⊎ IsTrue b
 either true b h = inl refl
 either false b h = inr h
 
@@ -66,20 +67,20 @@ module _ {K R A T : Type 0} (g : Grammar K R A T) (t : Tables K R) where
     meets_apart (Some k) (Some l) (token ∷ tokens) h m n = d.apart_classes k l token tokens h m n
 
     begins_any : (k : Option K) (ls : Ahead K) (tokens : List T)
-        → IsTrue (any_of (λ l. is_within_next t.is_within k l) ls) → MeetsWhole g t k tokens
+        → IsTrue (list_any (λ l. is_within_next t.is_within k l) ls) → MeetsWhole g t k tokens
         → BeginsWhole g t ls tokens
     begins_any k [] tokens h m = absurd (cc)
     begins_any k (l ∷ ls) tokens h m =
         elim (either (is_within_next t.is_within k l)
-        (any_of (λ l. is_within_next t.is_within k l) ls) h)
+        (list_any (λ l. is_within_next t.is_within k l) ls) h)
         [ inl p ↦ inl (meets_within k l tokens p m) | inr q ↦ inr (begins_any k ls tokens q m) ]
 
     pub begins_part : (ks ls : Ahead K) (tokens : List T) → IsTrue (is_part t ks ls)
         → BeginsWhole g t ks tokens → BeginsWhole g t ls tokens
     begins_part [] ls tokens h b = absurd b
     begins_part (k ∷ ks) ls tokens h b =
-        let p : IsTrue (any_of (λ l. is_within_next t.is_within k l) ls)
-        × IsTrue (is_part t ks ls) = chosen (any_of (λ l. is_within_next t.is_within k l) ls)
+        let p : IsTrue (list_any (λ l. is_within_next t.is_within k l) ls)
+        × IsTrue (is_part t ks ls) = chosen (list_any (λ l. is_within_next t.is_within k l) ls)
         (is_part t ks ls) h in
         elim b [ inl m ↦ begins_any k ls tokens p.0 m | inr c ↦ begins_part ks ls tokens p.1 c ]
 

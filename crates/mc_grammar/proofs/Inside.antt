@@ -1,9 +1,10 @@
 -- Going through the alternatives of a rule: entering, looking, taking a token, reading a rule,
 -- leaving.
-use Rattle.std.proofs.Common.{◌≡◌, ◌⊎◌, inl, inr, ℕ, ◌+◌, ◌-◌, ◌≤◌, max, Bool, true, false, not, List, [], ◌∷◌, ◌++◌, length, refl, sym, ap, ◌∙◌, append_assoc, append-nil, map, IsTrue, subst, arith, Option}
+use Rattle.std.proofs.Common.{◌≡◌, ◌⊎◌, inl, inr, ℕ, ◌+◌, ◌-◌, ◌≤◌, max, Bool, ◌||◌, true, false, not, List, [], ◌∷◌, ◌++◌, length, refl, sym, ap, ◌∙◌, append_assoc, append-nil, map, IsTrue, subst, arith, Option}
 use Rattle.mc_grammar.specs.Grammar.{Symbol, one, rule}
 use Rattle.mc_grammar.specs.Reading.{bare, IsOneOf}
-use Rattle.mc_grammar.specs.Ahead.{Ahead, BeginsWhole, MeetsWhole, every, any_of, starts, is_followed}
+use Rattle.std.specs.List.{list_any}
+use Rattle.mc_grammar.specs.Ahead.{Ahead, BeginsWhole, MeetsWhole, every, starts, is_followed}
 use Rattle.mc_grammar.specs.Language.{Language, Reads, Means, IsSound}
 use Rattle.mc_grammar.specs.Descent.{Allows, Alike, Leads}
 use Rattle.mc_grammar.specs.Places.{Place, behind_next, before, entries, passes, all_pass, is_out, kept, is_next, Sees, ReadsOne, IsReached, EachReached, Inside, Done}
@@ -56,17 +57,16 @@ module _ {K R A S T V : Type 0} (l : Language K R A S T V) where
   -- Looking: places that are out are no longer there.
   any_lets : (may : Option K → Bool) (ks : Ahead K) (w : List T)
       → ((k : Option K) → MeetsWhole l.grammar l.tables k w → IsTrue (may k))
-      → BeginsWhole l.grammar l.tables ks w → IsTrue (any_of may ks)
+      → BeginsWhole l.grammar l.tables ks w → IsTrue (list_any may ks)
   any_lets may [] w h b = absurd b
   any_lets may (k ∷ ks) w h (inl m) = first (may k) (h k m)
     where
-      first : (b : Bool) → IsTrue b → IsTrue (elim b [ true ↦ true | false ↦ any_of may ks ])
+      first : (b : Bool) → IsTrue b → IsTrue (b || list_any may ks)
       first true e = refl
       first false e = absurd (cc)
   any_lets may (k ∷ ks) w h (inr c) = second (may k) (any_lets may ks w h c)
     where
-      second : (b : Bool) → IsTrue (any_of may ks)
-          → IsTrue (elim b [ true ↦ true | false ↦ any_of may ks ])
+      second : (b : Bool) → IsTrue (list_any may ks) → IsTrue (b || list_any may ks)
       second true e = refl
       second false e = e
 
@@ -77,13 +77,13 @@ module _ {K R A S T V : Type 0} (l : Language K R A S T V) where
   out_reads_nothing d after look rest may left ks w s a same h p = go (reads_parts l left ks w p)
     where
       tests : IsTrue (is_followed l.tables left after)
-          × IsTrue (not (any_of may (starts l.tables left after)))
+          × IsTrue (not (list_any may (starts l.tables left after)))
       tests = both (is_followed l.tables left after)
-          (not (any_of may (starts l.tables left after))) h
+          (not (list_any may (starts l.tables left after))) h
 
       go : Parts l left ks w → ⊥
       go q =
-          negated_false (any_of may (starts l.tables left after)) tests.1
+          negated_false (list_any may (starts l.tables left after)) tests.1
           (any_lets may (starts l.tables left after) w (s.sees w same)
           (subst (λ (x : List T). BeginsWhole l.grammar l.tables (starts l.tables left after) x)
           (ap (λ (x : List T). x ++ q.second) q.reads_first.same_tokens ∙ q.joined)

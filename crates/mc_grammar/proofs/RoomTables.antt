@@ -2,7 +2,8 @@
 use Rattle.std.proofs.Common.{◌≡◌, inl, inr, ℕ, Bool, true, false, not, ◌&&◌, ◌||◌, List, [], ◌∷◌, ◌++◌, refl, sym, ap, ◌∙◌, map, IsTrue, subst, Option, Some, None}
 use Rattle.std.specs.Option.{option_map}
 use Rattle.mc_grammar.specs.Grammar.{Grammar, Symbol, one, rule}
-use Rattle.mc_grammar.specs.Ahead.{Ahead, Tables, Meets, Begins, StandsBehind, MeetsWhole, every, any_of, is_within_next, is_part, when, may_be_none, starts, is_behind, is_followed, is_covered, Covers}
+use Rattle.std.specs.List.{list_any}
+use Rattle.mc_grammar.specs.Ahead.{Ahead, Tables, Meets, Begins, StandsBehind, MeetsWhole, every, is_within_next, is_part, when, may_be_none, starts, is_behind, is_followed, is_covered, Covers}
 use Rattle.mc_grammar.specs.Language.{IsSound}
 use Rattle.mc_grammar.specs.Nest.{Marked, bound, free, unmarked, other_marks}
 use Rattle.mc_grammar.specs.Room.{Admitted, with_room, admitted, is_admitted, room_grammar, room_tables, room_language}
@@ -31,14 +32,14 @@ unadmitted_when false ks = refl
 
 module _ {K R A T : Type 0} (g : Grammar K R A T) (t : Tables K R) (deeper : A → List Bool) where
   any_same : (k : Option (Admitted K)) (ls : Ahead K)
-      → any_of (λ l. is_within_next (room_tables g t deeper).is_within k l) (admitted ls)
-      ≡ any_of (λ l. is_within_next t.is_within (option_map (λ c. c.class) k) l) ls
+      → list_any (λ l. is_within_next (room_tables g t deeper).is_within k l) (admitted ls)
+      ≡ list_any (λ l. is_within_next t.is_within (option_map (λ c. c.class) k) l) ls
   any_same k [] = refl
   any_same None (None ∷ ls) = refl
   any_same None (Some l ∷ ls) = any_same None ls
   any_same (Some k) (None ∷ ls) = any_same (Some k) ls
   any_same (Some k) (Some l ∷ ls) =
-      ap (λ (x : Bool). elim (t.is_within k.class l) [ true ↦ true | false ↦ x ])
+      ap (λ (x : Bool). t.is_within k.class l || x)
       (any_same (Some k) ls)
 
   part_same : (ks : Ahead (Admitted K)) (ls : Ahead K)
@@ -49,7 +50,7 @@ module _ {K R A T : Type 0} (g : Grammar K R A T) (t : Tables K R) (deeper : A �
       [ true ↦ is_part (room_tables g t deeper) ks (admitted ls) | false ↦ false ])
       (any_same k ls)
       ∙ ap (λ (x : Bool). elim
-      (any_of (λ l. is_within_next t.is_within (option_map (λ c. c.class) k) l) ls)
+      (list_any (λ l. is_within_next t.is_within (option_map (λ c. c.class) k) l) ls)
       [ true ↦ x | false ↦ false ]) (part_same ks ls)
 
   starts_same : (ss : List (Symbol K R)) (room : ℕ) (marks : List Bool)

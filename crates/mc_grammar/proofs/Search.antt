@@ -1,10 +1,10 @@
 -- A search for the readings of given tokens, for examples: what it finds is a reading, and where it
 -- finds nothing to go on with there is none.
-use Rattle.std.proofs.Common.{◌≡◌, inl, inr, ℕ, zero, suc, Bool, true, false, List, [], ◌∷◌, ◌++◌, refl, sym, ap, ◌∙◌, subst, append_assoc, append-nil, IsTrue, Option, Some, None}
+use Rattle.std.proofs.Common.{◌≡◌, inl, inr, ℕ, zero, suc, Bool, ◌||◌, true, false, List, [], ◌∷◌, ◌++◌, refl, sym, ap, ◌∙◌, subst, append_assoc, append-nil, IsTrue, Option, Some, None}
 use Rattle.std.specs.Option.{option_map}
 use Rattle.mc_grammar.specs.Grammar.{Grammar, Symbol, one, rule}
 use Rattle.mc_grammar.specs.Reading.{Forest, bare, leaf, node, tokens_of, IsOneOf, Fits, IsReading}
-use Rattle.mc_grammar.specs.Ahead.{any_of}
+use Rattle.std.specs.List.{list_any}
 use Rattle.mc_grammar.proofs.Forests.{beside, tokens_of-beside, Fits-beside}
 
 -- Each of the list is so.
@@ -185,20 +185,19 @@ module _ {K R A T : Type 0} (g : Grammar K R A T) where
   may_read (suc depth) (one k ∷ ss) (token ∷ tokens) =
       elim (g.is_of k token) [ true ↦ may_read depth ss tokens | false ↦ false ]
   may_read (suc depth) (rule r ∷ ss) tokens =
-      any_of (λ a. may_read depth (g.symbols a ++ ss) tokens) (g.alternatives r)
+      list_any (λ a. may_read depth (g.symbols a ++ ss) tokens) (g.alternatives r)
 
   any_here : (test : A → Bool) (a : A) (as' : List A) → IsOneOf a as' → IsTrue (test a)
-      → IsTrue (any_of test as')
+      → IsTrue (list_any test as')
   any_here test a [] i h = absurd i
   any_here test a (b ∷ bs) (inl e) h = first (test b) (subst (λ (x : A). IsTrue (test x)) e h)
     where
-      first : (c : Bool) → IsTrue c → IsTrue (elim c [ true ↦ true | false ↦ any_of test bs ])
+      first : (c : Bool) → IsTrue c → IsTrue (c || list_any test bs)
       first true k = refl
       first false k = cc
   any_here test a (b ∷ bs) (inr j) h = second (test b) (any_here test a bs j h)
     where
-      second : (c : Bool) → IsTrue (any_of test bs)
-          → IsTrue (elim c [ true ↦ true | false ↦ any_of test bs ])
+      second : (c : Bool) → IsTrue (list_any test bs) → IsTrue (c || list_any test bs)
       second true k = refl
       second false k = k
 

@@ -1,6 +1,7 @@
 -- What looking at the next tokens tells of the classes that may be met.
-use Rattle.std.proofs.Common.{◌≡◌, ◌⊎◌, inl, inr, ℕ, Bool, true, false, not, List, [], ◌∷◌, refl, IsTrue, ◌&&◌, subst, Option, Some, None}
-use Rattle.mc_grammar.specs.Ahead.{Ahead, Meets, Begins, StandsBehind, MeetsWhole, any_of, is_within_next}
+use Rattle.std.proofs.Common.{◌≡◌, ◌⊎◌, inl, inr, ℕ, Bool, ◌||◌, true, false, not, List, [], ◌∷◌, refl, IsTrue, ◌&&◌, subst, Option, Some, None}
+use Rattle.std.specs.List.{list_any}
+use Rattle.mc_grammar.specs.Ahead.{Ahead, Meets, Begins, StandsBehind, MeetsWhole, is_within_next}
 use Rattle.mc_grammar.specs.Language.{Language, IsSound}
 use Rattle.mc_grammar.specs.Descent.{Stands, Alike}
 use Rattle.mc_grammar.specs.Places.{Sees, is_met, stands_behind, is_met_whole}
@@ -18,17 +19,17 @@ both_true : (a b : Bool) → IsTrue a → IsTrue b → IsTrue (a && b)
 both_true true b h k = k
 both_true false b h k = absurd (cc)
 
-neither : (a b : Bool) → IsTrue (not (elim a [ true ↦ true | false ↦ b ]))
+neither : (a b : Bool) → IsTrue (not (a || b))
     → IsTrue (not a) × IsTrue (not b)
 neither true b h = absurd (cc)
 neither false b h = (refl, h)
 
 is_neither : (a b : Bool) → IsTrue (not a) → IsTrue (not b)
-    → IsTrue (not (elim a [ true ↦ true | false ↦ b ]))
+    → IsTrue (not (a || b))
 is_neither true b h k = absurd (cc)
 is_neither false b h k = k
 
-one_true : (a b : Bool) → IsTrue a ⊎ IsTrue b → IsTrue (elim a [ true ↦ true | false ↦ b ])
+one_true : (a b : Bool) → IsTrue a ⊎ IsTrue b → IsTrue (a || b)
 one_true true b h = refl
 one_true false b (inl h) = absurd (cc)
 one_true false b (inr h) = h
@@ -60,12 +61,12 @@ module _ {K R A S T V : Type 0} (l : Language K R A S T V) where
   met d (Some k) (x ∷ w) v same m = met_plain d (Some k) (x ∷ w) v same m.0
 
   begun : (d : IsSound l) (ks : Ahead K) (w : List T) (v : List S) → Alike l 1 w v
-      → Begins l.grammar ks w → IsTrue (any_of (λ k. is_met l k v) ks)
+      → Begins l.grammar ks w → IsTrue (list_any (λ k. is_met l k v) ks)
   begun d [] w v same b = absurd b
   begun d (k ∷ ks) w v same (inl m) =
-      one_true (is_met l k v) (any_of (λ k. is_met l k v) ks) (inl (met_plain d k w v same m))
+      one_true (is_met l k v) (list_any (λ k. is_met l k v) ks) (inl (met_plain d k w v same m))
   begun d (k ∷ ks) w v same (inr c) =
-      one_true (is_met l k v) (any_of (λ k. is_met l k v) ks) (inr (begun d ks w v same c))
+      one_true (is_met l k v) (list_any (λ k. is_met l k v) ks) (inr (begun d ks w v same c))
 
   behind_met : (d : IsSound l) (said : Option (Ahead K)) (w : List T) (v : List S)
       → Alike l 1 w v → StandsBehind l.grammar l.tables said w → IsTrue (stands_behind l said v)
@@ -97,14 +98,14 @@ module _ {K R A S T V : Type 0} (l : Language K R A S T V) where
 
   none_within : (d : IsSound l) (v : List S) (w : List T) (k : Option K) (os : Ahead K)
       → Alike l 1 w v → MeetsWhole l.grammar l.tables k w
-      → IsTrue (not (any_of (λ o. is_met l o v) os))
-      → IsTrue (not (any_of (λ o. is_within_next l.tables.is_within k o) os))
+      → IsTrue (not (list_any (λ o. is_met l o v) os))
+      → IsTrue (not (list_any (λ o. is_within_next l.tables.is_within k o) os))
   none_within d v w k [] same m h = refl
   none_within d v w k (o ∷ os) same m h =
-      let tests : IsTrue (not (is_met l o v)) × IsTrue (not (any_of (λ o. is_met l o v) os)) =
-      neither (is_met l o v) (any_of (λ o. is_met l o v) os) h in
+      let tests : IsTrue (not (is_met l o v)) × IsTrue (not (list_any (λ o. is_met l o v) os)) =
+      neither (is_met l o v) (list_any (λ o. is_met l o v) os) h in
       is_neither (is_within_next l.tables.is_within k o)
-      (any_of (λ o. is_within_next l.tables.is_within k o) os)
+      (list_any (λ o. is_within_next l.tables.is_within k o) os)
       (refuted (is_within_next l.tables.is_within k o) (λ within.
       not_true (is_met l o v) tests.0
       (met d o w v same (meets_within l.grammar l.tables d.covers k o w within m))))
@@ -112,8 +113,8 @@ module _ {K R A S T V : Type 0} (l : Language K R A S T V) where
 
   -- Classes that are not met tell that none within them is.
   pub sees_none_of : (d : IsSound l) (v : List S) (os : Ahead K)
-      → IsTrue (not (any_of (λ o. is_met l o v) os))
-      → Sees l 1 v (λ k. not (any_of (λ o. is_within_next l.tables.is_within k o) os))
+      → IsTrue (not (list_any (λ o. is_met l o v) os))
+      → Sees l 1 v (λ k. not (list_any (λ o. is_within_next l.tables.is_within k o) os))
   sees_none_of d v os h = record { sees = λ w same k m. none_within d v w k os same m h }
 
   -- A class that is not met, in whatever way one knows it, tells that none within it is.
@@ -161,7 +162,7 @@ module _ {K R A S T V : Type 0} (l : Language K R A S T V) where
   -- What stands behind a class may be met.
   abbrev pub said_lets : (Option K → Bool) → Option (Ahead K) → Bool
   said_lets may None = true
-  said_lets may (Some said) = any_of may said
+  said_lets may (Some said) = list_any may said
 
   -- The next token tells by its kind, and those behind it by what is seen of them.
   abbrev pub met_by_kinds : {Kind : Type 0} → (K → Kind → Bool) → Kind → (Option K → Bool)
@@ -172,11 +173,11 @@ module _ {K R A S T V : Type 0} (l : Language K R A S T V) where
 
   any_lets_plain : (may : Option K → Bool) (ks : Ahead K) (w : List T)
       → ((k : Option K) → Meets l.grammar k w → IsTrue (may k))
-      → Begins l.grammar ks w → IsTrue (any_of may ks)
+      → Begins l.grammar ks w → IsTrue (list_any may ks)
   any_lets_plain may [] w h b = absurd b
-  any_lets_plain may (k ∷ ks) w h (inl m) = one_true (may k) (any_of may ks) (inl (h k m))
+  any_lets_plain may (k ∷ ks) w h (inl m) = one_true (may k) (list_any may ks) (inl (h k m))
   any_lets_plain may (k ∷ ks) w h (inr c) =
-      one_true (may k) (any_of may ks) (inr (any_lets_plain may ks w h c))
+      one_true (may k) (list_any may ks) (inr (any_lets_plain may ks w h c))
 
   behind_lets : (may : Option K → Bool) (said : Option (Ahead K)) (w : List T)
       → ((k : Option K) → Meets l.grammar k w → IsTrue (may k))

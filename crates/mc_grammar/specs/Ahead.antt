@@ -1,6 +1,7 @@
 -- What may stand next: FIRST and FOLLOW, Aho, Lam, Sethi and Ullman, Compilers, 4.4.
 use Rattle.std.specs.Prelude.{◌⊎◌, ◌&&◌, ◌||◌, Bool, true, false, not, List, [], ◌∷◌, ◌++◌}
 use Rattle.std.specs.Prelude.{Option, Some, None, IsTrue}
+use Rattle.std.specs.List.{list_any}
 use Rattle.mc_grammar.specs.Grammar.{Grammar, Symbol, one, rule}
 
 -- What may stand next: tokens of a class, or None for the end of the tokens.
@@ -25,11 +26,6 @@ abbrev pub every : {A : Type 0} → (A → Bool) → List A → Bool
 every test [] = true
 every test (a ∷ as') = elim (test a) [ true ↦ every test as' | false ↦ false ]
 
--- One of the list passes the test.
-abbrev pub any_of : {A : Type 0} → (A → Bool) → List A → Bool
-any_of test [] = false
-any_of test (a ∷ as') = elim (test a) [ true ↦ true | false ↦ any_of test as' ]
-
 -- Nothing begins with both.
 abbrev pub are_apart_next : {K : Type 0} → (K → K → Bool) → Option K → Option K → Bool
 are_apart_next apart None None = false
@@ -50,7 +46,7 @@ exclude t ks ls = every (λ k. every (λ l. are_apart_next t.are_apart k l) ls) 
 
 -- What begins as the first list allows begins as the second allows.
 abbrev pub is_part : {K R : Type 0} → Tables K R → Ahead K → Ahead K → Bool
-is_part t ks ls = every (λ k. any_of (λ l. is_within_next t.is_within k l) ls) ks
+is_part t ks ls = every (λ k. list_any (λ l. is_within_next t.is_within k l) ls) ks
 
 -- The list if the test holds, else nothing.
 abbrev pub when : {A : Type 0} → Bool → List A → List A

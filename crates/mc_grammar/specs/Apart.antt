@@ -1,7 +1,7 @@
 -- Grammars whose alternatives are told apart: no two of one rule read one whole list of tokens. The
 -- comparison goes in lock step; where FIRST and FOLLOW exclude each other it ends, as in Aho, Lam,
 -- Sethi and Ullman, Compilers, 4.4.
-use Rattle.std.specs.Prelude.{◌≡◌, ◌&&◌, ℕ, zero, suc, Bool, true, false, IsTrue}
+use Rattle.std.specs.Prelude.{◌≡◌, ◌&&◌, ◌||◌, ℕ, zero, suc, Bool, true, false, IsTrue}
 use Rattle.std.specs.Prelude.{List, [], ◌∷◌, ◌++◌}
 use Rattle.mc_grammar.specs.Grammar.{Grammar, Symbol, one, rule}
 use Rattle.mc_grammar.specs.Ahead.{Ahead, Tables, every, exclude, starts, is_followed, Covers}
@@ -29,9 +29,9 @@ module _ {K R A T : Type 0} (g : Grammar K R A T) (t : Tables K R) where
   abbrev pub are_distinct : ℕ → List (Symbol K R) → Ahead K → List (Symbol K R) → Ahead K → Bool
   are_distinct zero ss after zz after' = false
   are_distinct (suc depth) ss after zz after' =
-      elim (exclude t (starts t ss after) (starts t zz after') &&
-      (is_followed t ss after && is_followed t zz after'))
-      [ true ↦ true | false ↦ step (are_distinct depth) ss after zz after' ]
+      (exclude t (starts t ss after) (starts t zz after')
+      && (is_followed t ss after && is_followed t zz after'))
+      || step (are_distinct depth) ss after zz after'
 
   -- No two of the alternatives read tokens in common.
   abbrev pub all_distinct : ℕ → Ahead K → List A → Bool

@@ -4,7 +4,8 @@ use Rattle.std.specs.Prelude.{◌≡◌, ◌⊎◌, ◌&&◌, not, ℕ, Bool, tr
 use Rattle.std.specs.Prelude.{List, [], ◌∷◌, ◌++◌, Option, Some, None, map}
 use Rattle.mc_grammar.specs.Grammar.{Symbol, one, rule}
 use Rattle.mc_grammar.specs.Reading.{IsOneOf}
-use Rattle.mc_grammar.specs.Ahead.{Ahead, every, any_of, is_part, starts, is_followed, MeetsWhole}
+use Rattle.std.specs.List.{list_any}
+use Rattle.mc_grammar.specs.Ahead.{Ahead, every, is_part, starts, is_followed, MeetsWhole}
 use Rattle.mc_grammar.specs.Language.{Language, Reads, Means}
 use Rattle.mc_grammar.specs.Descent.{Allows, Alike, Leads, Stuck, Deep}
 
@@ -45,7 +46,7 @@ module _ {K R A S T V : Type 0} (l : Language K R A S T V) where
   -- The symbols begin with nothing that the test lets through.
   abbrev pub is_out : (Option K → Bool) → Ahead K → List (Symbol K R) → Bool
   is_out may after symbols =
-      is_followed l.tables symbols after && not (any_of may (starts l.tables symbols after))
+      is_followed l.tables symbols after && not (list_any may (starts l.tables symbols after))
 
   -- None of the places is one that the test lets through.
   abbrev pub all_out : (Option K → Bool) → Ahead K → List (Place K R A) → Bool
@@ -80,7 +81,7 @@ module _ {K R A S T V : Type 0} (l : Language K R A S T V) where
   -- The tokens are as is said of what stands behind a class.
   abbrev pub stands_behind : Option (Ahead K) → List S → Bool
   stands_behind None tokens = true
-  stands_behind (Some said) tokens = any_of (λ k. is_met k tokens) said
+  stands_behind (Some said) tokens = list_any (λ k. is_met k tokens) said
 
   -- The tokens begin with one of the class and what stands behind it, or are at their end.
   abbrev pub is_met_whole : Option K → List S → Bool

@@ -10,7 +10,8 @@ use Rattle.mc_grammar.specs.Room.{room_language, free_completions}
 use Rattle.mc_grammar.proofs.Search.{Shows, shown, whole_forest, search_readings}
 use Rattle.mc_grammar.proofs.Completing.{completes}
 use Rattle.mc_grammar.proofs.Rooms.{free_completed}
-use Rattle.mc_sql.specs.Classes.{Class, word, mark, name, called, called_otherwise, intro, int, str, national, hex, is_reserved, is_intro, is_called, is_lexeme_of}
+use Rattle.mc_token.specs.Keywords.{keyword_of}
+use Rattle.mc_sql.specs.Classes.{Class, word, mark, name, called, called_otherwise, intro, int, str, national, hex, is_intro, is_called, is_lexeme_of}
 use Rattle.mc_token.specs.Marks.{mark_text}
 use Rattle.mc_sql.specs.Rules.{Rule, Alternative}
 use Rattle.mc_sql.specs.Statements.{statements}
@@ -18,7 +19,7 @@ use Rattle.mc_sql.specs.Nest.{deeper}
 use Rattle.mc_sql.specs.Completions.{lexeme_of, completions}
 use Rattle.mc_sql.proofs.Tables.{tables}
 use Rattle.mc_sql.proofs.Numbers.{rules, of_each}
-use Rattle.mc_sql.proofs.Sound.{same_text-itself}
+use Rattle.std.proofs.lemmas.Slice.Eq.{bytes_eq-Decides}
 
 -- Something is found.
 abbrev is_found : {X : Type 0} → Option X → Bool
@@ -31,7 +32,7 @@ found_true (Some x) h = refl
 
 each_read : IsTrue (every (λ r. is_found (whole_forest
     (search_readings statements 30 (rule r ∷ []) (completions.tokens_of_rule r)))) rules)
-unfolding is_reserved is_intro is_called
+unfolding keyword_of is_intro is_called
 each_read = refl
 
 -- The tokens of each rule are read by it.
@@ -44,9 +45,9 @@ rule_read r = shown statements 30 r (completions.tokens_of_rule r) (λ f. true) 
 
 -- The lexeme of each class is of it.
 pub class_met : (k : Class) → IsTrue (is_lexeme_of k (lexeme_of k))
-unfolding is_reserved is_intro is_called
-class_met (word text) = same_text-itself text
-class_met (mark symbol) = same_text-itself (mark_text symbol)
+unfolding keyword_of is_intro is_called
+class_met (word text) = (bytes_eq-Decides text text).1 refl
+class_met (mark symbol) = (bytes_eq-Decides (mark_text symbol) (mark_text symbol)).1 refl
 class_met name = refl
 class_met called = refl
 class_met called_otherwise = refl

@@ -7,9 +7,11 @@ use Rattle.mc_token.specs.declared.lexeme.Token.{Token}
 use Rattle.mc_token.specs.declared.lexeme.Symbol.{Symbol}
 use Rattle.mc_grammar.specs.Ahead.{Ahead, every, Meets, Begins, StandsBehind, MeetsWhole, BeginsWhole, Covers}
 use Rattle.mc_grammar.specs.Apart.{ToldApart}
-use Rattle.mc_grammar.proofs.Ahead.{both, chosen}
+use Rattle.mc_grammar.proofs.Ahead.{chosen}
 use Rattle.mc_token.specs.Marks.{mark_text}
-use Rattle.mc_sql.specs.Classes.{Class, word, mark, name, called, called_otherwise, intro, int, str, national, hex, same_text, is_reserved, is_intro, is_called, is_lexeme_of}
+use Rattle.std.specs.Str.{bytes_eq}
+use Rattle.std.proofs.lemmas.Slice.Eq.{bytes_eq-Decides}
+use Rattle.mc_sql.specs.Classes.{Class, word, mark, name, called, called_otherwise, intro, int, str, national, hex, is_reserved, is_intro, is_called, is_lexeme_of}
 use Rattle.mc_sql.specs.Rules.{Rule, statement}
 use Rattle.mc_sql.specs.Statements.{statements}
 use Rattle.mc_sql.proofs.Apart.{are_apart, is_within}
@@ -21,40 +23,22 @@ use Rattle.mc_sql.proofs.Decided.{covered, distinct}
 same_number : (m n : ℕ) → IsTrue (nat_eq m n) → m ≡ n
 same_number m n h = grind (arith, nat_tests)
 
-number_itself : (n : ℕ) → IsTrue (nat_eq n n)
-number_itself n = grind (arith, nat_tests)
-
-pub same_text-sound : (a b : List ℕ) → IsTrue (same_text a b) → a ≡ b
-same_text-sound [] [] h = refl
-same_text-sound [] (d ∷ ds) h = absurd (cc)
-same_text-sound (c ∷ cs) [] h = absurd (cc)
-same_text-sound (c ∷ cs) (d ∷ ds) h =
-    let p : IsTrue (nat_eq c d) × IsTrue (same_text cs ds) =
-    both (nat_eq c d) (same_text cs ds) h in
-    let e : c ≡ d = same_number c d p.0 in
-    let es : cs ≡ ds = same_text-sound cs ds p.1 in
-    cc
-
-pub same_text-itself : (a : List ℕ) → IsTrue (same_text a a)
-same_text-itself [] = refl
-same_text-itself (c ∷ cs) = rw (number_itself c) (same_text-itself cs)
-
 not_both : (b : Bool) → IsTrue b → IsTrue (not b) → ⊥
 not_both true h k = cc
 not_both false h k = cc
 
 -- A text is not of a test and equal to one that is not.
-apart_by : (test : List ℕ → Bool) (a w : List ℕ) → IsTrue (not (test a)) → IsTrue (same_text w a)
+apart_by : (test : List ℕ → Bool) (a w : List ℕ) → IsTrue (not (test a)) → IsTrue (bytes_eq w a)
     → IsTrue (test w) → ⊥
 apart_by test a w h p q = not_both (test a)
-    (subst (λ (x : List ℕ). IsTrue (test x)) (same_text-sound w a p) q) h
+    (subst (λ (x : List ℕ). IsTrue (test x)) ((bytes_eq-Decides w a).0 p) q) h
 
-two_texts : (a b w : List ℕ) → IsTrue (not (same_text a b)) → IsTrue (same_text w a)
-    → IsTrue (same_text w b) → ⊥
+two_texts : (a b w : List ℕ) → IsTrue (not (bytes_eq a b)) → IsTrue (bytes_eq w a)
+    → IsTrue (bytes_eq w b) → ⊥
 two_texts a b w h p q =
-    let e : a ≡ b = sym (same_text-sound w a p) ∙ same_text-sound w b q in
-    not_both (same_text a b) (subst (λ (x : List ℕ). IsTrue (same_text a x)) e
-    (same_text-itself a)) h
+    let e : a ≡ b = sym ((bytes_eq-Decides w a).0 p) ∙ (bytes_eq-Decides w b).0 q in
+    not_both (bytes_eq a b) (subst (λ (x : List ℕ). IsTrue (bytes_eq a x)) e
+    ((bytes_eq-Decides a a).1 refl)) h
 
 -- No string.
 abbrev is_no_str : Option Class → Bool
@@ -107,7 +91,7 @@ either_holds : (a b : Bool) → IsTrue (a || b) → IsTrue a ⊎ IsTrue b
 either_holds true b h = inl refl
 either_holds false b h = inr h
 
-escape_behind : (a : List ℕ) (tokens : List Token) → IsTrue (same_text a (codes "escape"))
+escape_behind : (a : List ℕ) (tokens : List Token) → IsTrue (bytes_eq a (codes "escape"))
     → StandsBehind statements tables (behind (word a)) tokens
     → Begins statements (Some str ∷ []) tokens
 escape_behind a tokens h b =
@@ -115,13 +99,13 @@ escape_behind a tokens h b =
     (elim t [ true ↦ Some (Some str ∷ []) | false ↦ behind_call a ]) tokens) h b
 
 word_or_name : (a w : List ℕ) (tokens : List Token)
-    → IsTrue (is_reserved a || same_text a (codes "escape")) → IsTrue (same_text w a)
+    → IsTrue (is_reserved a || bytes_eq a (codes "escape")) → IsTrue (bytes_eq w a)
     → StandsBehind statements tables (behind (word a)) tokens → IsTrue (not (is_reserved w))
     → Begins statements behind_name tokens → ⊥
 word_or_name a w tokens h p b q c =
-    elim (either_holds (is_reserved a) (same_text a (codes "escape")) h) [
+    elim (either_holds (is_reserved a) (bytes_eq a (codes "escape")) h) [
       | inl r ↦ not_both (is_reserved w)
-          (subst (λ (x : List ℕ). IsTrue (is_reserved x)) (sym (same_text-sound w a p)) r) q
+          (subst (λ (x : List ℕ). IsTrue (is_reserved x)) (sym ((bytes_eq-Decides w a).0 p)) r) q
       | inr e ↦ no_str_behind tokens c (escape_behind a tokens e b)
     ]
 
@@ -133,12 +117,12 @@ apart_word (word a) (word o) w tokens h p b q c = two_texts a o w h p q
 apart_word (word a) name w tokens h p b q c = word_or_name a w tokens h p b q c
 apart_word (word a) called w tokens h p b q c = apart_by is_called a w h p q
 apart_word (word a) called_otherwise w tokens h p b q c =
-    apart_by (λ x. is_called x && not (same_text x (codes "weight_string"))) a w h p q
+    apart_by (λ x. is_called x && not (bytes_eq x (codes "weight_string"))) a w h p q
 apart_word (word a) intro w tokens h p b q c = apart_by is_intro a w h p q
 apart_word name (word a) w tokens h p b q c = word_or_name a w tokens h q c p b
 apart_word called (word a) w tokens h p b q c = apart_by is_called a w h q p
 apart_word called_otherwise (word a) w tokens h p b q c =
-    apart_by (λ x. is_called x && not (same_text x (codes "weight_string"))) a w h q p
+    apart_by (λ x. is_called x && not (bytes_eq x (codes "weight_string"))) a w h q p
 apart_word intro (word a) w tokens h p b q c = apart_by is_intro a w h q p
 apart_word _ _ w tokens h p b q c = cc
 
@@ -185,10 +169,10 @@ apart_lexeme k l (Hex text) tokens h p b q c = apart_hex k l text h p q
 apart_lexeme k l (Sym symbol) tokens h p b q c = apart_mark k l symbol h p q
 
 one_class : (k l : Class) → IsTrue (is_within k l) → k ≡ l
-one_class (word a) (word o) h = ap (λ x. word x) (same_text-sound a o h)
+one_class (word a) (word o) h = ap (λ x. word x) ((bytes_eq-Decides a o).0 h)
 one_class (mark a) (mark o) h =
     ap (λ x. mark x) (sym (spelled-spelling a)
-    ∙ ap (λ x. spelled x) (same_text-sound (mark_text a) (mark_text o) h) ∙ spelled-spelling o)
+    ∙ ap (λ x. spelled x) ((bytes_eq-Decides (mark_text a) (mark_text o)).0 h) ∙ spelled-spelling o)
 one_class name name h = refl
 one_class called called h = refl
 one_class called_otherwise called_otherwise h = refl

@@ -2,14 +2,14 @@
 use Rattle.std.proofs.Common.{◌≡◌, refl, true, false, ℕ, List, [], ◌∷◌}
 use Rattle.mc_token.specs.declared.lexeme.Symbol.{Symbol}
 use Rattle.mc_token.specs.declared.lexeme.Symbol.TheVariants.{LeftParen, RightParen, Comma, Dot, Star, Plus, Minus, Percent, Eq, Ne, NeBang, Lt, Le, Gt, Ge, NullEq}
-use Rattle.mc_sql.specs.Classes.{same_text}
+use Rattle.std.specs.Str.{bytes_eq}
 use Rattle.mc_token.specs.Marks.{mark_text}
 
 -- The first of the marks with the spelling.
 abbrev first_spelled : List ℕ → List Symbol → Symbol
 first_spelled text [] = LeftParen
 first_spelled text (symbol ∷ symbols) =
-    elim (same_text (mark_text symbol) text) [ true ↦ symbol | false ↦ first_spelled text symbols ]
+    elim (bytes_eq (mark_text symbol) text) [ true ↦ symbol | false ↦ first_spelled text symbols ]
 
 -- The mark of a spelling.
 abbrev pub spelled : List ℕ → Symbol

@@ -17,7 +17,8 @@ use Rattle.mc_grammar.proofs.Seeing.{sees_next, sees_two, sees_not_two}
 use Rattle.mc_grammar.proofs.Inside.{enter}
 use Rattle.mc_grammar.proofs.Values.{done_takes}
 use Rattle.mc_grammar.proofs.Ways.{choose, look, take_token, read_rule, read_rule_far, finish, no_place, no_room}
-use Rattle.mc_sql.specs.Classes.{Class, word, is_reserved, is_intro, is_called}
+use Rattle.mc_token.specs.Keywords.{keyword_of}
+use Rattle.mc_sql.specs.Classes.{Class, word, is_intro, is_called}
 use Rattle.mc_sql.specs.Rules.{Rule, Alternative, not, pred, not_option, sum, prim, call, escape_option}
 use Rattle.mc_sql.specs.Statements.{statements}
 use Rattle.mc_sql.specs.Nest.{deeper}
@@ -50,7 +51,7 @@ module _ {V : Type 0} (tv : Token → V) (nv : Alternative → List Token → Li
       → Done language (behind not) 1 (at (suc n) not) v w x
       → (value : V) × Done language (behind not) 1 (at (suc (suc n)) not)
       (the_token s (Word (codes "not")) ∷ v) w value
-  unfolding is_reserved is_intro is_called
+  unfolding keyword_of is_intro is_called
   not_read n s v w x o = (
     _,
     finish language sound (read_rule language sound (take_token language sound
@@ -62,7 +63,7 @@ module _ {V : Type 0} (tv : Token → V) (nv : Alternative → List Token → Li
   parenthesis_too_deep : (s : Span) (v : List Token)
       → IsTooDeep language (behind prim) (at 1 prim) (the_token s (Sym LeftParen) ∷ v)
       (the_token s (Sym LeftParen) ∷ v)
-  unfolding is_reserved is_intro is_called
+  unfolding keyword_of is_intro is_called
   parenthesis_too_deep s v =
       no_room language sound (free_completions completions) complete
       (choose language sound (sees_next language sound (the_token s (Sym LeftParen) ∷ v))) refl
@@ -72,7 +73,7 @@ module _ {V : Type 0} (tv : Token → V) (nv : Alternative → List Token → Li
   operand_missing : (n : ℕ) (s : Span) (v : List Token)
       → Fails language (behind prim) (at (suc n) prim) (the_token s (Sym Comma) ∷ v)
       (the_token s (Sym Comma) ∷ v)
-  unfolding is_reserved is_intro is_called
+  unfolding keyword_of is_intro is_called
   operand_missing n s v =
       no_place language sound (free_completions completions) complete (enter language _ _ _)
       (sees_next language sound (the_token s (Sym Comma) ∷ v)) refl (omega arith)
@@ -83,7 +84,7 @@ module _ {V : Type 0} (tv : Token → V) (nv : Alternative → List Token → Li
       (the_token s (Word (codes "f")) ∷ the_token u (Sym LeftParen) ∷ v) w x
       → (value : V) × Done language (behind prim) 1 (at (suc n) prim)
       (the_token s (Word (codes "f")) ∷ the_token u (Sym LeftParen) ∷ v) w value
-  unfolding is_reserved is_intro is_called
+  unfolding keyword_of is_intro is_called
   call_chosen n s u v w x o = (
     _,
     finish language sound (read_rule_far language sound
@@ -96,7 +97,7 @@ module _ {V : Type 0} (tv : Token → V) (nv : Alternative → List Token → Li
       → (value : V) × Done language (behind prim) 1 (at (suc n) prim)
       (the_token s (Word (codes "count")) ∷ the_token u (Sym Comma) ∷ v)
       (the_token u (Sym Comma) ∷ v) value
-  unfolding is_reserved is_intro is_called
+  unfolding keyword_of is_intro is_called
   column_chosen n s u v = (
     _,
     finish language sound (look language sound (take_token language sound
@@ -113,7 +114,7 @@ module _ {V : Type 0} (tv : Token → V) (nv : Alternative → List Token → Li
       → Done language (behind sum) 1 (at (suc n) sum) v w b
       → Done language (behind escape_option) 1 (at (suc n) escape_option) w y e
       → (value : V) × Done language (behind pred) 1 (at (suc n) pred) u y value
-  unfolding is_reserved is_intro is_called
+  unfolding keyword_of is_intro is_called
   like_read n s u v w y a b e none first without second rest = (
     _,
     finish language sound (read_rule language sound (read_rule language sound (take_token language
@@ -129,7 +130,7 @@ module _ {V : Type 0} (tv : Token → V) (nv : Alternative → List Token → Li
       → (value : V) × Done language (behind escape_option) 2 (at (suc n) escape_option)
       (the_token s (Word (codes "escape")) ∷ the_token u (Sym Comma) ∷ v)
       (the_token s (Word (codes "escape")) ∷ the_token u (Sym Comma) ∷ v) value
-  unfolding is_reserved is_intro is_called
+  unfolding keyword_of is_intro is_called
   escape_left n s u v = (
     _,
     finish language sound (choose language sound (sees_not_two language sound

@@ -3,8 +3,10 @@ use Rattle.std.specs.Prelude.{Bool, true, false, ℕ, nat_eq, List, [], ◌∷�
 use Prim.Native.String.{String}
 use Rattle.mc_token.specs.declared.lexeme.Symbol.{Symbol as Mark}
 use Rattle.mc_token.specs.declared.lexeme.Symbol.TheVariants.{LeftParen, RightParen, Comma, Dot, Star, Plus, Minus, Percent, Eq, Ne, NeBang, Lt, Le, Gt, Ge, NullEq}
-use Rattle.mc_grammar.specs.Ahead.{Ahead, Tables, any_of}
-use Rattle.mc_sql.specs.Classes.{Class, word, mark, name, called, called_otherwise, intro, int, str, national, hex, same_text}
+use Rattle.mc_grammar.specs.Ahead.{Ahead, Tables}
+use Rattle.std.specs.List.{list_any}
+use Rattle.std.specs.Str.{bytes_eq}
+use Rattle.mc_sql.specs.Classes.{Class, word, mark, name, called, called_otherwise, intro, int, str, national, hex}
 use Rattle.mc_sql.proofs.Apart.{are_apart, is_within}
 use Rattle.mc_sql.specs.Rules.{Rule, statement, explain_option, distinct_option, more_items, source_option, source, where_option, group_option, more_ors, order_option, more_orders, limit_option, offset_option, item, alias_option, order, direction_option, or, more_xors, xor, more_ands, and, more_nots, not, pred, not_option, escape_option, cmp, sum, more_prods, prod, more_negs, neg, coll, more_collates, name_or_binary, prim, string, more_strs, call, set_option, side, or_option, length_option, cut_option}
 
@@ -242,7 +244,7 @@ behind_name =
 -- begin a call with arguments of their own, and ESCAPE.
 abbrev is_call_word : List ℕ → Bool
 is_call_word text =
-    any_of (λ word. same_text text word) (
+    list_any (λ word. bytes_eq text word) (
     codes "convert" ∷ codes "cast" ∷ codes "count" ∷ codes "trim" ∷ codes "substring" ∷
     codes "weight_string" ∷ [])
 
@@ -252,7 +254,7 @@ behind_call text = elim (is_call_word text) [ true ↦ Some (a_mark LeftParen �
 abbrev pub behind : Class → Option (Ahead Class)
 behind name = Some behind_name
 behind (word text) =
-    elim (same_text text (codes "escape")) [
+    elim (bytes_eq text (codes "escape")) [
       | true ↦ Some (Some str ∷ [])
       | false ↦ behind_call text
     ]

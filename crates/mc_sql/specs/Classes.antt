@@ -1,49 +1,31 @@
 -- What a token may be in the grammar of the statements: MySQL 8.0 manual, 9.2 and 9.3.
-use Rattle.std.specs.Prelude.{Bool, true, false, not, ◌&&◌, ◌||◌, ℕ, List, [], ◌∷◌, codes, nat_eq}
-use Rattle.mc_grammar.specs.Ahead.{any_of}
+use Rattle.std.specs.Prelude.{Bool, true, false, not, ◌&&◌, ◌||◌, ℕ, nat_eq, List, [], ◌∷◌, codes}
+use Rattle.std.specs.Prelude.{Some, None}
+use Rattle.std.specs.List.{list_any}
+use Rattle.std.specs.Str.{bytes_eq}
+use Rattle.mc_charset.specs.Names.{set_names}
 use Rattle.mc_token.specs.declared.lexeme.Lexeme.{Lexeme}
-use Rattle.mc_token.specs.declared.lexeme.Lexeme.TheVariants.{Word, Name, Int, Str, National, Hex, Sym}
+use Rattle.mc_token.specs.declared.lexeme.Lexeme.TheVariants.{Word, Name, Int, Str, National}
+use Rattle.mc_token.specs.declared.lexeme.Lexeme.TheVariants.{Hex, Sym}
 use Rattle.mc_token.specs.declared.lexeme.Symbol.{Symbol}
+use Rattle.mc_token.specs.Keywords.{keyword_of, is_reserved as is_reserved_keyword}
 use Rattle.mc_token.specs.Marks.{mark_text}
 
--- The two texts are one.
-abbrev pub same_text : List ℕ → List ℕ → Bool
-same_text [] [] = true
-same_text [] (d ∷ ds) = false
-same_text (c ∷ cs) [] = false
-same_text (c ∷ cs) (d ∷ ds) = nat_eq c d && same_text cs ds
-
--- The words that are names only between backquotes.
-abbrev pub reserved_words : List (List ℕ)
-reserved_words =
-    codes "select" ∷ codes "distinct" ∷ codes "from" ∷ codes "where" ∷ codes "group" ∷ codes "by"
-    ∷ codes "order" ∷ codes "asc" ∷ codes "desc" ∷ codes "limit" ∷ codes "as" ∷ codes "and"
-    ∷ codes "or" ∷ codes "xor" ∷ codes "not" ∷ codes "is" ∷ codes "null" ∷ codes "like"
-    ∷ codes "in" ∷ codes "between" ∷ codes "collate" ∷ codes "div" ∷ codes "mod" ∷ codes "explain"
-    ∷ codes "convert" ∷ codes "using" ∷ codes "true" ∷ codes "false" ∷ codes "character"
-    ∷ codes "set" ∷ codes "char" ∷ codes "binary" ∷ codes "both" ∷ codes "leading"
-    ∷ codes "trailing" ∷ codes "for" ∷ []
-
--- The names of the character sets; `utf8` is another one of utf8mb3.
-abbrev pub set_names : List (List ℕ)
-set_names =
-    codes "latin1" ∷ codes "ascii" ∷ codes "utf8mb3" ∷ codes "utf8mb4" ∷ codes "ucs2"
-    ∷ codes "utf16" ∷ codes "utf32" ∷ codes "binary" ∷ codes "utf8" ∷ []
-
--- The word is reserved.
-unfoldable pub is_reserved : List ℕ → Bool
-is_reserved text = any_of (λ word. same_text text word) reserved_words
+-- The word is a keyword that is a name only between backquotes.
+abbrev pub is_reserved : List ℕ → Bool
+is_reserved text =
+    elim (keyword_of text) [ Some keyword ↦ is_reserved_keyword keyword | None ↦ false ]
 
 -- The word is `_S`, where S names a set.
 unfoldable pub is_intro : List ℕ → Bool
 is_intro [] = false
-is_intro (c ∷ text) = nat_eq c 95 && any_of (λ name. same_text text name) set_names
+is_intro (c ∷ text) = nat_eq c 95 && list_any (λ name. bytes_eq text name) set_names
 
 -- The word may begin a call with its arguments alone: it is not reserved and not `cast`, or it is
 -- `mod`, which in a primary's place is the word of a call.
 unfoldable pub is_called : List ℕ → Bool
-is_called text = same_text text (codes "mod") ||
-    (not (is_reserved text) && not (same_text text (codes "cast")))
+is_called text = bytes_eq text (codes "mod") ||
+    (not (is_reserved text) && not (bytes_eq text (codes "cast")))
 
 -- The classes of tokens that the grammar asks for: a word, a mark, NAME, the word of a call with
 -- its arguments alone, the same without `weight_string`, INTRO, and the literals.
@@ -61,12 +43,12 @@ pub data Class : Type 0 where
 
 -- The lexeme is of the class.
 abbrev pub is_lexeme_of : Class → Lexeme → Bool
-is_lexeme_of (word text) (Word w) = same_text w text
-is_lexeme_of (mark symbol) (Sym other) = same_text (mark_text other) (mark_text symbol)
+is_lexeme_of (word text) (Word w) = bytes_eq w text
+is_lexeme_of (mark symbol) (Sym other) = bytes_eq (mark_text other) (mark_text symbol)
 is_lexeme_of name (Word w) = not (is_reserved w)
 is_lexeme_of name (Name w) = true
 is_lexeme_of called (Word w) = is_called w
-is_lexeme_of called_otherwise (Word w) = is_called w && not (same_text w (codes "weight_string"))
+is_lexeme_of called_otherwise (Word w) = is_called w && not (bytes_eq w (codes "weight_string"))
 is_lexeme_of intro (Word w) = is_intro w
 is_lexeme_of int (Int number) = true
 is_lexeme_of str (Str text) = true

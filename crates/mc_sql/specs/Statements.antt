@@ -8,8 +8,38 @@ use Rattle.mc_token.specs.declared.lexeme.Symbol.TheVariants.{LeftParen, RightPa
 use Rattle.mc_token.specs.declared.lexeme.Symbol.TheVariants.{Star, Plus, Minus, Percent}
 use Rattle.mc_token.specs.declared.lexeme.Symbol.TheVariants.{Eq, Ne, NeBang, Lt}
 use Rattle.mc_token.specs.declared.lexeme.Symbol.TheVariants.{Le, Gt, Ge, NullEq}
-use Rattle.mc_sql.specs.Classes.{Class, word, mark, name, called, called_otherwise, intro, int, str, national, hex, is_lexeme_of}
-use Rattle.mc_sql.specs.Rules.{Rule, Alternative, alternatives, explain_option, distinct_option, more_items, source_option, source, where_option, group_option, more_ors, order_option, more_orders, limit_option, offset_option, item, alias_option, order, direction_option, or, more_xors, xor, more_ands, and, more_nots, not, pred, not_option, escape_option, cmp, sum, more_prods, prod, more_negs, neg, coll, more_collates, name_or_binary, prim, string, more_strs, call, set_option, side, or_option, length_option, cut_option, star_statement, items_statement, no_explain, explained, no_distinct, distinct_rows, no_more_items, one_more_item, no_source, given_source, from_table, no_where, where_holds, no_group, group_by, no_more_ors, one_more_or, no_order, order_by, no_more_orders, one_more_order, no_limit, limit_rows, no_offset, offset_before, offset_behind, one_item, no_alias, as_alias, bare_alias, one_order, no_direction, ascending, descending, xors, no_more_xors, one_more_xor, ands, no_more_ands, one_more_and, nots, no_more_nots, one_more_not, negated, just_pred, just_sum, compared, tested_null, matched, listed, ranged, no_not, with_not, no_escape, with_escape, equal, null_equal, unequal, unequal_bang, less, less_equal, greater, greater_equal, prods, no_more_prods, plus_prod, minus_prod, negs, no_more_negs, times_neg, div_neg, percent_neg, mod_neg, minus, just_coll, collated, no_more_collates, one_more_collate, by_name, by_binary, number, true_word, false_word, null_word, just_string, column, table_column, just_call, in_parens, plain_string, national_string, hex_string, intro_string, intro_hex, no_more_strs, one_more_str, convert_call, cast_char_call, cast_binary_call, count_all_call, count_distinct_call, trim_side_call, trim_call, substring_call, weight_string_call, empty_call, single_call, many_call, no_set, with_set, both_sides, leading_side, trailing_side, no_or, given_or, no_length, with_length, no_cut, char_cut, binary_cut}
+use Rattle.mc_sql.specs.Classes.{Class, word, mark, name, called, called_otherwise, intro, int, str}
+use Rattle.mc_sql.specs.Classes.{national, hex, is_lexeme_of}
+use Rattle.mc_sql.specs.Rules.{Rule, Alternative, alternatives, explain_option, distinct_option}
+use Rattle.mc_sql.specs.Rules.{more_items, source_option, source, where_option, group_option}
+use Rattle.mc_sql.specs.Rules.{more_ors, order_option, more_orders, limit_option, offset_option}
+use Rattle.mc_sql.specs.Rules.{item, alias_option, order, direction_option, or, more_xors, xor}
+use Rattle.mc_sql.specs.Rules.{more_ands, and, more_nots, not, pred, not_option, escape_option, cmp}
+use Rattle.mc_sql.specs.Rules.{sum, more_prods, prod, more_negs, neg, coll, more_collates}
+use Rattle.mc_sql.specs.Rules.{name_or_binary, prim, string, more_strs, call, set_option, side}
+use Rattle.mc_sql.specs.Rules.{or_option, length_option, cut_option, star_statement}
+use Rattle.mc_sql.specs.Rules.{items_statement, no_explain, explained, no_distinct, distinct_rows}
+use Rattle.mc_sql.specs.Rules.{no_more_items, one_more_item, no_source, given_source, from_table}
+use Rattle.mc_sql.specs.Rules.{no_where, where_holds, no_group, group_by, no_more_ors, one_more_or}
+use Rattle.mc_sql.specs.Rules.{no_order, order_by, no_more_orders, one_more_order, no_limit}
+use Rattle.mc_sql.specs.Rules.{limit_rows, no_offset, offset_before, offset_behind, one_item}
+use Rattle.mc_sql.specs.Rules.{no_alias, as_alias, bare_alias, one_order, no_direction, ascending}
+use Rattle.mc_sql.specs.Rules.{descending, xors, no_more_xors, one_more_xor, ands, no_more_ands}
+use Rattle.mc_sql.specs.Rules.{one_more_and, nots, no_more_nots, one_more_not, negated, just_pred}
+use Rattle.mc_sql.specs.Rules.{just_sum, compared, tested_null, matched, listed, ranged, no_not}
+use Rattle.mc_sql.specs.Rules.{with_not, no_escape, with_escape, equal, null_equal, unequal}
+use Rattle.mc_sql.specs.Rules.{unequal_bang, less, less_equal, greater, greater_equal, prods}
+use Rattle.mc_sql.specs.Rules.{no_more_prods, plus_prod, minus_prod, negs, no_more_negs, times_neg}
+use Rattle.mc_sql.specs.Rules.{div_neg, percent_neg, mod_neg, minus, just_coll, collated}
+use Rattle.mc_sql.specs.Rules.{no_more_collates, one_more_collate, by_name, by_binary, number}
+use Rattle.mc_sql.specs.Rules.{true_word, false_word, null_word, just_string, column, table_column}
+use Rattle.mc_sql.specs.Rules.{just_call, in_parens, plain_string, national_string, hex_string}
+use Rattle.mc_sql.specs.Rules.{intro_string, intro_hex, no_more_strs, one_more_str, convert_call}
+use Rattle.mc_sql.specs.Rules.{cast_char_call, cast_binary_call, count_all_call}
+use Rattle.mc_sql.specs.Rules.{count_distinct_call, trim_side_call, trim_call, substring_call}
+use Rattle.mc_sql.specs.Rules.{weight_string_call, empty_call, single_call, many_call, no_set}
+use Rattle.mc_sql.specs.Rules.{with_set, both_sides, leading_side, trailing_side, no_or, given_or}
+use Rattle.mc_sql.specs.Rules.{no_length, with_length, no_cut, char_cut, binary_cut}
 
 -- A word of the grammar.
 abbrev keyword : String → Symbol Class Rule

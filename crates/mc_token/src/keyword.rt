@@ -213,8 +213,9 @@ impl Keyword {
 /// The keyword that a word in lower case is; None where it is another word.
 #[tactic(auto, using(crate::proofs::Keywords::keyword_exact))]
 pub fn keyword_named(word: &[u8]) -> Option<Keyword>
-    ensures { MatchOption result ((keyword : Keyword) → word.now ≢ keyword_text keyword)
+    ensures spelled { MatchOption result ((keyword : Keyword) → word.now ≢ keyword_text keyword)
         (λ keyword. word.now ≡ keyword_text keyword) }
+    ensures computed { result ≡ keyword_of word.now }
 {
     keyword_of(word)
 }

@@ -5,7 +5,6 @@ pub mod Escapes
 pub mod Texts
 pub mod OneAnswer
 pub mod Told
-pub mod Reserved
 pub mod RunSteps
 pub mod ValueSteps
 pub mod StandardFacts

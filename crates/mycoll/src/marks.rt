@@ -1,6 +1,4 @@
-ghost use Rattle.std.specs.List.{list_any};
 ghost use Rattle.std.specs.Prelude.{◌≡◌, None, Some, MatchOption};
-ghost use Rattle.std.specs.Str.{bytes_eq};
 ghost use Rattle.mc_sql.specs.Classes.{is_reserved};
 ghost use Rattle.mycoll.specs.Queries.{
   is_word,
@@ -15,7 +13,7 @@ ghost use Rattle.mycoll.specs.Queries.{
 };
 
 use mc_base::Text;
-use mc_token::{Lexeme, Symbol, Token};
+use mc_token::{Lexeme, Symbol, Token, keyword_named};
 
 fn is_word(word: &[u8], token: &Token) -> bool
     ensures { result ≡ is_word word.now token.now }
@@ -107,58 +105,14 @@ pub fn are_two_closes(tokens: &[Token]) -> bool
     }
 }
 
-/// The words that are names only between backquotes.
-const RESERVED_WORDS: [&[u8]; 36] = [
-    b"select",
-    b"distinct",
-    b"from",
-    b"where",
-    b"group",
-    b"by",
-    b"order",
-    b"asc",
-    b"desc",
-    b"limit",
-    b"as",
-    b"and",
-    b"or",
-    b"xor",
-    b"not",
-    b"is",
-    b"null",
-    b"like",
-    b"in",
-    b"between",
-    b"collate",
-    b"div",
-    b"mod",
-    b"explain",
-    b"convert",
-    b"using",
-    b"true",
-    b"false",
-    b"character",
-    b"set",
-    b"char",
-    b"binary",
-    b"both",
-    b"leading",
-    b"trailing",
-    b"for",
-];
-
-/// Whether a word is one of these.
-fn is_among(word: &[u8], words: &[&[u8]]) -> bool
-    ensures { result ≡ list_any (λ other. bytes_eq word.now other.now) words.now }
-{
-    words.iter().any(|other| word == *other)
-}
-
 /// Whether a word is a name only between backquotes.
 fn is_reserved(word: &[u8]) -> bool
     ensures { result ≡ is_reserved word.now }
 {
-    is_among(word, &RESERVED_WORDS)
+    match keyword_named(word) {
+        Some(keyword) => keyword.is_reserved(),
+        None => false,
+    }
 }
 
 /// The name that the first token is: between backquotes, or a word that isn't reserved. BINARY
