@@ -5,5 +5,6 @@ pub mod Election
 pub mod Aggregates
 pub mod AnyOrder
 pub mod Repertoires
+pub mod Losses
 pub mod StandardFacts
 pub mod Results

@@ -8,11 +8,16 @@ ghost use Rattle.mc_coerce.specs.declared.operand.Agg.TheVariants.{Uses};
 ghost use Rattle.mc_coerce.specs.declared.operand.Operand.{Operand};
 ghost use Rattle.mc_coerce.specs.declared.operand.Purpose.{Purpose};
 ghost use Rattle.mc_coerce.specs.declared.operand.Purpose.TheVariants.{Text};
-ghost use Rattle.mc_convert.specs.Classes.{cap_of, rank};
+ghost use Rattle.mc_charset.specs.Chars.{IsWellFormed};
+ghost use Rattle.mc_convert.specs.Classes.{IsRepertoire, cap_of, rank};
+ghost use Rattle.mc_convert.specs.Conversion.{IsLossless};
 ghost use Rattle.mc_convert.specs.declared.repertoire.Repertoire.{Repertoire};
 ghost use Rattle.std.specs.List.{All, Any, Contains};
 ghost use Rattle.std.specs.List.Sorted.{IsPermutation};
-ghost use Rattle.std.specs.Prelude.{◌≡◌, ◌≤◌, ◌⊎◌, List, true};
+ghost use Rattle.std.specs.Prelude.{◌≡◌, ◌≤◌, ◌⊎◌, List, true, ℕ};
+
+use mc_charset::chars_law;
+use mc_convert::{conversion_law, repertoire_law as class_law};
 
 /// The laws of the pair table: an operand beats itself, and two operands beat each other only if
 /// they have one collation and one level.
@@ -45,8 +50,9 @@ pub fn order_law()
         → aggregate list Text ≡ Uses (outcome Share (counted list) a) }
 {}
 
-/// The repertoire of a result is the least class of its set that is at least each operand's, and
-/// no operand loses a character in the result's set.
+/// The repertoire of a result is the least class of its set that is at least each operand's. A text
+/// within an operand's repertoire loses no character in the result's set: where that is another
+/// one, it has the whole class.
 pub fn repertoire_law()
     ensures of_set { (list : List Operand) (purpose : Purpose) (together : Operand)
         → aggregate list purpose ≡ Uses together
@@ -59,10 +65,19 @@ pub fn repertoire_law()
         → class_in_set together.charset class ≡ class
         → All (λ a. rank a.repertoire ≤ rank class) (counted list)
         → rank together.repertoire ≤ rank class }
-    ensures lossless { (list : List Operand) (purpose : Purpose) (together a : Operand)
+    ensures fits { (list : List Operand) (purpose : Purpose) (together a : Operand)
         → AreOperands list → aggregate list purpose ≡ Uses together → Contains (counted list) a
         → (a.charset ≡ together.charset) ⊎ (rank a.repertoire ≤ rank (cap_of together.charset)) }
-{}
+    ensures lossless { (list : List Operand) (purpose : Purpose) (together a : Operand)
+        (text : List ℕ) (class : Repertoire) → AreOperands list
+        → aggregate list purpose ≡ Uses together → Contains (counted list) a
+        → IsWellFormed a.charset text → IsRepertoire a.charset text class
+        → rank class ≤ rank a.repertoire → IsLossless a.charset together.charset text }
+{
+    chars_law();
+    class_law();
+    conversion_law();
+}
 
 /// A result is an operand again, of an operand's set and collation or of its set's binary one.
 pub fn result_law()
