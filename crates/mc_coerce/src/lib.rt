@@ -6,8 +6,8 @@
 //! (`aggregate`). `aggregate(&[column, literal], Purpose::Compare)` answers the collation of the
 //! comparison `column = literal`, or `Agg::Mix`: an illegal mix of collations.
 //!
-//! The levels and their order are those of the MySQL 8.0 manual, 10.8.4, the repertoires those of
-//! 10.2.1; the table for operands of different sets is this project's own.
+//! The levels and their order are those of the MySQL 8.0 manual, 10.8.4. The chain of repertoires,
+//! finer than those of 10.2.1, and the table for operands of different sets are this project's.
 //!
 //! Modules in reading order: `operand`, `condition` (what operands keep to), `sets` (character sets
 //! beside each other), `pair` (two operands), `demand` (what decides for a list), `agreement` (the
