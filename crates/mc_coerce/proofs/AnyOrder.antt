@@ -23,9 +23,9 @@ use Rattle.mc_coerce.specs.declared.demand.Demand.{Demand}
 use Rattle.mc_coerce.specs.declared.demand.Demand.TheVariants.{Beat, Share}
 use Rattle.mc_coerce.specs.Operand.{IsOperand, AgreeOnSet, AreOperands}
 use Rattle.mc_coerce.specs.Pair.{beats}
-use Rattle.mc_coerce.specs.Demand.{meets, decides}
+use Rattle.mc_coerce.specs.Demand.{meets, decides, outcome, decision}
 use Rattle.mc_coerce.specs.Aggregate.{takes_part, counted, later, greatest, class_in_set, of_bin}
-use Rattle.mc_coerce.specs.Aggregate.{outcome, decision, agreed, uses_or_mix, aggregate}
+use Rattle.mc_coerce.specs.Aggregate.{agreed, uses_or_mix, aggregate}
 use Rattle.mc_coerce.proofs.PairTable.{wins, beaten, each_other, same_number}
 use Rattle.mc_coerce.proofs.PairTable.{in_collation}
 use Rattle.mc_coerce.proofs.Members.{Found, find-any, find-none}

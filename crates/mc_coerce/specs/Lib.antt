@@ -1,5 +1,5 @@
 pub mod Operand
 pub mod Sets
 pub mod Pair
-pub mod Demand
 pub mod Aggregate
+pub mod Demand

@@ -1,7 +1,6 @@
-ghost use Rattle.mc_coerce.specs.Aggregate.{agreed, aggregate, class_in_set, counted, decision};
-ghost use Rattle.mc_coerce.specs.Aggregate.{greatest, is_refused, later, of_bin, outcome};
-ghost use Rattle.mc_coerce.specs.Aggregate.{takes_part};
-ghost use Rattle.mc_coerce.specs.Demand.{decides};
+ghost use Rattle.mc_coerce.specs.Aggregate.{agreed, aggregate, class_in_set, counted, greatest};
+ghost use Rattle.mc_coerce.specs.Aggregate.{is_refused, later, of_bin, takes_part};
+ghost use Rattle.mc_coerce.specs.Demand.{decides, decision, outcome};
 ghost use Rattle.mc_coerce.specs.Operand.{AreOperands};
 ghost use Rattle.std.specs.Prelude.{◌≡◌, length};
 

@@ -1,9 +1,8 @@
-ghost use Rattle.mc_coerce.specs.Aggregate.{aggregate, class_in_set, counted, outcome};
-ghost use Rattle.mc_coerce.specs.Demand.{decides};
+ghost use Rattle.mc_coerce.specs.Aggregate.{aggregate, beats_each, class_in_set, counted};
+ghost use Rattle.mc_coerce.specs.Aggregate.{shared_by, shares_with_each, won_by};
 ghost use Rattle.mc_coerce.specs.Operand.{AreOperands, IsOperand};
 ghost use Rattle.mc_coerce.specs.Pair.{beats};
 ghost use Rattle.mc_coerce.specs.Sets.{bin_collation_of};
-ghost use Rattle.mc_coerce.specs.declared.demand.Demand.TheVariants.{Beat, Share};
 ghost use Rattle.mc_coerce.specs.declared.operand.Agg.TheVariants.{Uses};
 ghost use Rattle.mc_coerce.specs.declared.operand.Operand.{Operand};
 ghost use Rattle.mc_coerce.specs.declared.operand.Purpose.{Purpose};
@@ -35,19 +34,19 @@ pub fn order_law()
         → IsPermutation list other → aggregate list purpose ≡ aggregate other purpose }
     ensures one_winner { (list : List Operand) (a b : Operand) → AreOperands list
         → Contains (counted list) a → Contains (counted list) b
-        → decides Beat (counted list) a ≡ true → decides Beat (counted list) b ≡ true
+        → beats_each (counted list) a ≡ true → beats_each (counted list) b ≡ true
         → (a.charset ≡ b.charset) × (a.collation ≡ b.collation) × (a.level ≡ b.level) }
     ensures one_set { (list : List Operand) (a b : Operand) → AreOperands list
         → Contains (counted list) a → Contains (counted list) b
-        → decides Share (counted list) a ≡ true → decides Share (counted list) b ≡ true
+        → shares_with_each (counted list) a ≡ true → shares_with_each (counted list) b ≡ true
         → (a.charset ≡ b.charset) × (a.level ≡ b.level) }
     ensures won { (list : List Operand) (a : Operand) → AreOperands list
-        → Contains (counted list) a → decides Beat (counted list) a ≡ true
-        → aggregate list Text ≡ Uses (outcome Beat (counted list) a) }
+        → Contains (counted list) a → beats_each (counted list) a ≡ true
+        → aggregate list Text ≡ Uses (won_by (counted list) a) }
     ensures shared { (list : List Operand) (a : Operand) → AreOperands list
-        → ((b : Operand) → Contains (counted list) b → decides Beat (counted list) b ≡ true → ⊥)
-        → Contains (counted list) a → decides Share (counted list) a ≡ true
-        → aggregate list Text ≡ Uses (outcome Share (counted list) a) }
+        → ((b : Operand) → Contains (counted list) b → beats_each (counted list) b ≡ true → ⊥)
+        → Contains (counted list) a → shares_with_each (counted list) a ≡ true
+        → aggregate list Text ≡ Uses (shared_by (counted list) a) }
 {}
 
 /// The repertoire of a result is the least class of its set that is at least each operand's. A text
