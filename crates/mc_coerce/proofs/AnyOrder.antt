@@ -122,7 +122,7 @@ pub one_shared_set : (list : List Operand) (a b : Operand) → AreOperands list
 one_shared_set list a b ops c d h k =
     let e : AlikeShare a b = both_decide Share list a b ops c d h k in (e.set, e.level)
 
-has_member : (list : List Operand) (a : Operand) → Contains list a → length list ≡ 0 → ⊥
+pub has_member : (list : List Operand) (a : Operand) → Contains list a → length list ≡ 0 → ⊥
 has_member list a c h = let l = c.1 in omega arith
 
 -- Any operand that decides gives the answer
@@ -135,7 +135,7 @@ won list a ops c h =
     ∙ ap (λ o. uses_or_mix (or_shared (counted list) o))
     (decider Beat (counted list) a (AreOperands-counted list ops) c h)
 
-no_decider : (demand : Demand) (list : List Operand)
+pub no_decider : (demand : Demand) (list : List Operand)
     → ((b : Operand) → Contains list b → decides demand list b ≡ true → ⊥)
     → decision demand list ≡ None
 no_decider demand list h =
@@ -146,15 +146,6 @@ no_decider demand list h =
           absurd (h r.0 r.1.within r.1.passes)
       | inr f ↦ ap (option_map (outcome demand list)) (find-none (decides demand list) list f)
     ]
-
-pub shared_by : (list : List Operand) (a : Operand) → AreOperands list
-    → ((b : Operand) → Contains (counted list) b → decides Beat (counted list) b ≡ true → ⊥)
-    → Contains (counted list) a → decides Share (counted list) a ≡ true
-    → aggregate list Text ≡ Uses (outcome Share (counted list) a)
-shared_by list a ops none c h =
-    aggregate-some list Text (has_member (counted list) a c)
-    ∙ ap (λ o. uses_or_mix (or_shared (counted list) o)) (no_decider Beat (counted list) none)
-    ∙ ap uses_or_mix (decider Share (counted list) a (AreOperands-counted list ops) c h)
 
 -- The order of operands
 

@@ -1,19 +1,20 @@
 ghost use Rattle.mc_coerce.specs.Aggregate.{aggregate, beats_each, class_in_set, counted};
-ghost use Rattle.mc_coerce.specs.Aggregate.{shared_by, shares_with_each, won_by};
+ghost use Rattle.mc_coerce.specs.Aggregate.{HasSharer, HasWinner, no_collation, shared_by};
+ghost use Rattle.mc_coerce.specs.Aggregate.{shares_with_each, won_by};
 ghost use Rattle.mc_coerce.specs.Operand.{AreOperands, IsOperand};
 ghost use Rattle.mc_coerce.specs.Pair.{beats};
 ghost use Rattle.mc_coerce.specs.Sets.{bin_collation_of};
-ghost use Rattle.mc_coerce.specs.declared.operand.Agg.TheVariants.{Uses};
+ghost use Rattle.mc_coerce.specs.declared.operand.Agg.TheVariants.{Mix, Uses};
 ghost use Rattle.mc_coerce.specs.declared.operand.Operand.{Operand};
 ghost use Rattle.mc_coerce.specs.declared.operand.Purpose.{Purpose};
-ghost use Rattle.mc_coerce.specs.declared.operand.Purpose.TheVariants.{Text};
+ghost use Rattle.mc_coerce.specs.declared.operand.Purpose.TheVariants.{Compare, Text};
 ghost use Rattle.mc_charset.specs.Chars.{IsWellFormed};
 ghost use Rattle.mc_convert.specs.Classes.{IsRepertoire, cap_of, rank};
 ghost use Rattle.mc_convert.specs.Conversion.{IsLossless};
 ghost use Rattle.mc_convert.specs.declared.repertoire.Repertoire.{Repertoire};
 ghost use Rattle.std.specs.List.{All, Any, Contains};
 ghost use Rattle.std.specs.List.Sorted.{IsPermutation};
-ghost use Rattle.std.specs.Prelude.{◌≡◌, ◌≤◌, ◌⊎◌, List, true, ℕ};
+ghost use Rattle.std.specs.Prelude.{◌≡◌, ◌<◌, ◌≤◌, ◌⊎◌, ◌↔◌, List, length, true, ℕ};
 
 use mc_charset::chars_law;
 use mc_convert::{conversion_law, repertoire_law as class_law};
@@ -26,9 +27,9 @@ pub fn pair_law()
         → (a.collation ≡ b.collation) × (a.level ≡ b.level) }
 {}
 
-/// The order of the operands doesn't matter. Any operand that beats the others gives the answer,
-/// and so does, of a text and where none beats the others, any one that shares with them; two that
-/// do so agree.
+/// The order of the operands doesn't matter. Any operand that beats each gives the answer, in a
+/// comparison unless two or more are left and its level is 1; where none does, any one that shares
+/// with each gives that of a text; two that do so agree.
 pub fn order_law()
     ensures any_order { (list other : List Operand) (purpose : Purpose) → AreOperands list
         → IsPermutation list other → aggregate list purpose ≡ aggregate other purpose }
@@ -43,10 +44,28 @@ pub fn order_law()
     ensures won { (list : List Operand) (a : Operand) → AreOperands list
         → Contains (counted list) a → beats_each (counted list) a ≡ true
         → aggregate list Text ≡ Uses (won_by (counted list) a) }
+    ensures compared { (list : List Operand) (a : Operand) → AreOperands list
+        → Contains (counted list) a → beats_each (counted list) a ≡ true
+        → (1 < length (counted list) → a.level ≡ no_collation → ⊥)
+        → aggregate list Compare ≡ Uses (won_by (counted list) a) }
     ensures shared { (list : List Operand) (a : Operand) → AreOperands list
-        → ((b : Operand) → Contains (counted list) b → beats_each (counted list) b ≡ true → ⊥)
-        → Contains (counted list) a → shares_with_each (counted list) a ≡ true
+        → (HasWinner (counted list) → ⊥) → Contains (counted list) a
+        → shares_with_each (counted list) a ≡ true
         → aggregate list Text ≡ Uses (shared_by (counted list) a) }
+{}
+
+/// A mix is of two operands or more, NULLs aside: for a comparison exactly where none beats each,
+/// or one that does has level 1; for a text exactly where none beats each and none shares with each.
+pub fn mix_law()
+    ensures compare { (list : List Operand) → AreOperands list
+        → ((aggregate list Compare ≡ Mix) ↔ ((1 < length (counted list))
+        × ((HasWinner (counted list) → ⊥) ⊎ Any (λ a. (beats_each (counted list) a ≡ true)
+        × (a.level ≡ no_collation)) (counted list)))) }
+    ensures text { (list : List Operand) → ((aggregate list Text ≡ Mix)
+        ↔ ((1 < length (counted list)) × (HasWinner (counted list) → ⊥)
+        × (HasSharer (counted list) → ⊥))) }
+    ensures two_or_more { (list : List Operand) (purpose : Purpose) → AreOperands list
+        → aggregate list purpose ≡ Mix → 1 < length (counted list) }
 {}
 
 /// The repertoire of a result is the least class of its set that is at least each operand's. A text

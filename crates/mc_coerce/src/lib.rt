@@ -30,6 +30,6 @@ mod tests;
 
 pub use agreement::aggregate;
 pub use condition::are_operands;
-pub use laws::{order_law, pair_law, repertoire_law, result_law};
+pub use laws::{mix_law, order_law, pair_law, repertoire_law, result_law};
 pub use operand::{Agg, Operand, Purpose};
 pub use pair::beats;
