@@ -13,11 +13,12 @@ use Rattle.mc_coerce.specs.declared.operand.Purpose.TheVariants.{Compare, Text}
 use Rattle.mc_coerce.specs.declared.operand.Agg.TheVariants.{Uses, Mix}
 use Rattle.mc_coerce.specs.declared.demand.Demand.{Demand}
 use Rattle.mc_coerce.specs.declared.demand.Demand.TheVariants.{Beat, Share}
+use Rattle.mc_coerce.specs.Levels.{no_collation}
 use Rattle.mc_coerce.specs.Operand.{AreOperands}
 use Rattle.mc_coerce.specs.Pair.{beats}
 use Rattle.mc_coerce.specs.Demand.{decides, outcome, decision}
 use Rattle.mc_coerce.specs.Aggregate.{counted, beats_each, won_by, HasWinner, HasSharer}
-use Rattle.mc_coerce.specs.Aggregate.{no_collation, is_refused, agreed, uses_or_mix, aggregate}
+use Rattle.mc_coerce.specs.Aggregate.{is_refused, agreed, uses_or_mix, aggregate}
 use Rattle.mc_coerce.proofs.Members.{any_member, Found, find-any}
 use Rattle.mc_coerce.proofs.Election.{decider}
 use Rattle.mc_coerce.proofs.Aggregates.{AreOperands-counted, aggregate-none, aggregate-some}

@@ -14,9 +14,9 @@ use Rattle.mc_coerce.specs.declared.operand.Purpose.{Purpose}
 use Rattle.mc_coerce.specs.declared.operand.Purpose.TheVariants.{Compare, Text}
 use Rattle.mc_coerce.specs.declared.operand.Agg.{Agg}
 use Rattle.mc_coerce.specs.declared.operand.Agg.TheVariants.{Uses, Mix}
-use Rattle.mc_coerce.specs.Operand.{ignorable}
+use Rattle.mc_coerce.specs.Levels.{explicit, no_collation, ignorable}
 use Rattle.mc_coerce.specs.Sets.{bin_collation_of}
-use Rattle.mc_coerce.specs.Pair.{beats, explicit}
+use Rattle.mc_coerce.specs.Pair.{beats}
 
 -- The operand isn't ignorable.
 abbrev pub takes_part : Operand → Bool
@@ -74,10 +74,6 @@ of_bin set level class = record {
   level = level;
   repertoire = class;
 }
-
--- The level of a text whose operands have a set, but no collation together.
-abbrev pub no_collation : ℕ
-no_collation = 1
 
 -- What operands have where this one beats each: its set, collation and level.
 -- The repertoire is the greatest one.

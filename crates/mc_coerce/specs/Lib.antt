@@ -1,3 +1,4 @@
+pub mod Levels
 pub mod Operand
 pub mod Sets
 pub mod Pair

@@ -2,7 +2,8 @@ ghost use Rattle.mc_coerce.specs.Aggregate.{same_set_and_level, shares};
 ghost use Rattle.mc_coerce.specs.Demand.{contender, has_less, meets};
 ghost use Rattle.std.specs.Prelude.{◌≡◌};
 
-use crate::operand::{EXPLICIT, Operand};
+use crate::levels::EXPLICIT;
+use crate::operand::Operand;
 use crate::pair::beats;
 use mc_charset::same_set;
 

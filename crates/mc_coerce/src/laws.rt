@@ -1,6 +1,7 @@
 ghost use Rattle.mc_coerce.specs.Aggregate.{aggregate, beats_each, class_in_set, counted};
-ghost use Rattle.mc_coerce.specs.Aggregate.{HasSharer, HasWinner, no_collation, shared_by};
+ghost use Rattle.mc_coerce.specs.Aggregate.{HasSharer, HasWinner, shared_by};
 ghost use Rattle.mc_coerce.specs.Aggregate.{shares_with_each, won_by};
+ghost use Rattle.mc_coerce.specs.Levels.{no_collation};
 ghost use Rattle.mc_coerce.specs.Operand.{AreOperands, IsOperand};
 ghost use Rattle.mc_coerce.specs.Pair.{beats};
 ghost use Rattle.mc_coerce.specs.Sets.{bin_collation_of};
@@ -9,6 +10,7 @@ ghost use Rattle.mc_coerce.specs.declared.operand.Operand.{Operand};
 ghost use Rattle.mc_coerce.specs.declared.operand.Purpose.{Purpose};
 ghost use Rattle.mc_coerce.specs.declared.operand.Purpose.TheVariants.{Compare, Text};
 ghost use Rattle.mc_charset.specs.Chars.{IsWellFormed};
+ghost use Rattle.mc_charset.specs.declared.charset.Charset.{Charset};
 ghost use Rattle.mc_convert.specs.Classes.{IsRepertoire, cap_of, rank};
 ghost use Rattle.mc_convert.specs.Conversion.{IsLossless};
 ghost use Rattle.mc_convert.specs.declared.repertoire.Repertoire.{Repertoire};
@@ -18,6 +20,13 @@ ghost use Rattle.std.specs.Prelude.{◌≡◌, ◌<◌, ◌≤◌, ◌⊎◌, �
 
 use mc_charset::chars_law;
 use mc_convert::{conversion_law, repertoire_law as class_law};
+
+/// Operands keep to what `aggregate` asks for where each does by itself and one function gives the
+/// set of each one's collation.
+pub fn operands_law()
+    ensures by_sets { (list : List Operand) (set_of : ℕ → Charset) → All IsOperand list
+        → All (λ a. a.charset ≡ set_of a.collation.0) list → AreOperands list }
+{}
 
 /// The laws of the pair table: an operand beats itself, and two operands beat each other only if
 /// they have one collation and one level.
