@@ -15,9 +15,10 @@ use Rattle.mc_coerce.specs.declared.operand.Purpose.TheVariants.{Compare, Text}
 use Rattle.mc_coerce.specs.declared.operand.Agg.TheVariants.{Uses}
 use Rattle.mc_coerce.specs.declared.demand.Demand.{Demand}
 use Rattle.mc_coerce.specs.declared.demand.Demand.TheVariants.{Beat, Share}
-use Rattle.mc_coerce.specs.Operand.{ignorable, IsOperand, AgreeOnSet, AreOperands}
-use Rattle.mc_coerce.specs.Demand.{decides}
-use Rattle.mc_coerce.specs.Aggregate.{takes_part, counted, of_bin, outcome, decision, is_refused}
+use Rattle.mc_coerce.specs.Levels.{ignorable}
+use Rattle.mc_coerce.specs.Operand.{IsOperand, AgreeOnSet, AreOperands}
+use Rattle.mc_coerce.specs.Demand.{decides, outcome, decision}
+use Rattle.mc_coerce.specs.Aggregate.{takes_part, counted, of_bin, is_refused}
 use Rattle.mc_coerce.specs.Aggregate.{agreed, uses_or_mix, aggregate_counted, aggregate}
 use Rattle.mc_coerce.proofs.Election.{Candidate, elect_from, elect_from-end, elected}
 use Rattle.mc_coerce.proofs.Members.{Found, find-any, find-none}

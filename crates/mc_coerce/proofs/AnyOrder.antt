@@ -23,9 +23,9 @@ use Rattle.mc_coerce.specs.declared.demand.Demand.{Demand}
 use Rattle.mc_coerce.specs.declared.demand.Demand.TheVariants.{Beat, Share}
 use Rattle.mc_coerce.specs.Operand.{IsOperand, AgreeOnSet, AreOperands}
 use Rattle.mc_coerce.specs.Pair.{beats}
-use Rattle.mc_coerce.specs.Demand.{meets, decides}
+use Rattle.mc_coerce.specs.Demand.{meets, decides, outcome, decision}
 use Rattle.mc_coerce.specs.Aggregate.{takes_part, counted, later, greatest, class_in_set, of_bin}
-use Rattle.mc_coerce.specs.Aggregate.{outcome, decision, agreed, uses_or_mix, aggregate}
+use Rattle.mc_coerce.specs.Aggregate.{agreed, uses_or_mix, aggregate}
 use Rattle.mc_coerce.proofs.PairTable.{wins, beaten, each_other, same_number}
 use Rattle.mc_coerce.proofs.PairTable.{in_collation}
 use Rattle.mc_coerce.proofs.Members.{Found, find-any, find-none}
@@ -122,7 +122,7 @@ pub one_shared_set : (list : List Operand) (a b : Operand) → AreOperands list
 one_shared_set list a b ops c d h k =
     let e : AlikeShare a b = both_decide Share list a b ops c d h k in (e.set, e.level)
 
-has_member : (list : List Operand) (a : Operand) → Contains list a → length list ≡ 0 → ⊥
+pub has_member : (list : List Operand) (a : Operand) → Contains list a → length list ≡ 0 → ⊥
 has_member list a c h = let l = c.1 in omega arith
 
 -- Any operand that decides gives the answer
@@ -135,7 +135,7 @@ won list a ops c h =
     ∙ ap (λ o. uses_or_mix (or_shared (counted list) o))
     (decider Beat (counted list) a (AreOperands-counted list ops) c h)
 
-no_decider : (demand : Demand) (list : List Operand)
+pub no_decider : (demand : Demand) (list : List Operand)
     → ((b : Operand) → Contains list b → decides demand list b ≡ true → ⊥)
     → decision demand list ≡ None
 no_decider demand list h =
@@ -146,15 +146,6 @@ no_decider demand list h =
           absurd (h r.0 r.1.within r.1.passes)
       | inr f ↦ ap (option_map (outcome demand list)) (find-none (decides demand list) list f)
     ]
-
-pub shared_by : (list : List Operand) (a : Operand) → AreOperands list
-    → ((b : Operand) → Contains (counted list) b → decides Beat (counted list) b ≡ true → ⊥)
-    → Contains (counted list) a → decides Share (counted list) a ≡ true
-    → aggregate list Text ≡ Uses (outcome Share (counted list) a)
-shared_by list a ops none c h =
-    aggregate-some list Text (has_member (counted list) a c)
-    ∙ ap (λ o. uses_or_mix (or_shared (counted list) o)) (no_decider Beat (counted list) none)
-    ∙ ap uses_or_mix (decider Share (counted list) a (AreOperands-counted list ops) c h)
 
 -- The order of operands
 

@@ -17,11 +17,11 @@ use Rattle.mc_convert.specs.declared.repertoire.Repertoire.{Repertoire}
 use Rattle.mc_coerce.specs.declared.operand.Operand.{Operand}
 use Rattle.mc_coerce.specs.declared.demand.Demand.{Demand}
 use Rattle.mc_coerce.specs.declared.demand.Demand.TheVariants.{Beat, Share}
+use Rattle.mc_coerce.specs.Levels.{no_collation}
 use Rattle.mc_coerce.specs.Operand.{built_in_count, IsOperand, AgreeOnSet, AreOperands}
 use Rattle.mc_coerce.specs.Pair.{beats}
-use Rattle.mc_coerce.specs.Demand.{same_set_and_level, meets, decides, has_less, contender}
-use Rattle.mc_coerce.specs.Aggregate.{greatest, class_in_set, of_bin, no_collation, outcome}
-use Rattle.mc_coerce.specs.Aggregate.{decision}
+use Rattle.mc_coerce.specs.Demand.{meets, decides, has_less, contender, outcome, decision}
+use Rattle.mc_coerce.specs.Aggregate.{same_set_and_level, greatest, class_in_set, of_bin}
 use Rattle.mc_coerce.proofs.SetTests.{same_set-true, same_set-from}
 use Rattle.mc_coerce.proofs.PairTable.{wins, beaten, each_other, keeps_wins, Shares}
 use Rattle.mc_coerce.proofs.PairTable.{share_each_other, keeps_shares, one_set}

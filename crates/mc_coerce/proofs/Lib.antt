@@ -4,6 +4,8 @@ pub mod Members
 pub mod Election
 pub mod Aggregates
 pub mod AnyOrder
+pub mod Mixes
 pub mod Repertoires
+pub mod Losses
 pub mod StandardFacts
 pub mod Results

@@ -18,9 +18,10 @@ use Rattle.mc_coerce.specs.declared.operand.Purpose.{Purpose}
 use Rattle.mc_coerce.specs.declared.operand.Agg.TheVariants.{Uses}
 use Rattle.mc_coerce.specs.declared.demand.Demand.{Demand}
 use Rattle.mc_coerce.specs.declared.demand.Demand.TheVariants.{Beat, Share}
-use Rattle.mc_coerce.specs.Operand.{ignorable, AgreeOnSet, AreOperands}
-use Rattle.mc_coerce.specs.Demand.{meets}
-use Rattle.mc_coerce.specs.Aggregate.{counted, later, greatest, class_in_set, of_bin, outcome}
+use Rattle.mc_coerce.specs.Levels.{ignorable}
+use Rattle.mc_coerce.specs.Operand.{AgreeOnSet, AreOperands}
+use Rattle.mc_coerce.specs.Demand.{meets, outcome}
+use Rattle.mc_coerce.specs.Aggregate.{counted, later, greatest, class_in_set, of_bin}
 use Rattle.mc_coerce.specs.Aggregate.{aggregate}
 use Rattle.mc_coerce.proofs.PairTable.{Wins, wins, one_set, in_collation, in_set}
 use Rattle.mc_coerce.proofs.PairTable.{across_sets}

@@ -11,9 +11,11 @@ use Rattle.mc_coerce.specs.declared.operand.Purpose.{Purpose}
 use Rattle.mc_coerce.specs.declared.operand.Agg.TheVariants.{Uses}
 use Rattle.mc_coerce.specs.declared.demand.Demand.{Demand}
 use Rattle.mc_coerce.specs.declared.demand.Demand.TheVariants.{Beat, Share}
-use Rattle.mc_coerce.specs.Operand.{ignorable, built_in_count, IsOperand, AreOperands}
+use Rattle.mc_coerce.specs.Levels.{ignorable}
+use Rattle.mc_coerce.specs.Operand.{built_in_count, IsOperand, AreOperands}
 use Rattle.mc_coerce.specs.Sets.{bin_collation_of}
-use Rattle.mc_coerce.specs.Aggregate.{counted, of_bin, outcome, aggregate}
+use Rattle.mc_coerce.specs.Aggregate.{counted, of_bin, aggregate}
+use Rattle.mc_coerce.specs.Demand.{outcome}
 use Rattle.mc_coerce.proofs.SetTests.{each_set}
 use Rattle.mc_coerce.proofs.Aggregates.{AreOperands-counted, aggregate-from}
 

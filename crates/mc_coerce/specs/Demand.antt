@@ -1,27 +1,33 @@
--- What an operand has to do to each of the operands so that it decides for all of them.
-use Rattle.std.specs.Prelude.{Bool, not, ◌&&◌, ◌||◌, nat_eq, nat_lt, Option, Some, None}
-use Rattle.std.specs.Prelude.{List, if◌then◌else◌}
-use Rattle.std.specs.List.{list_all}
-use Rattle.mc_charset.specs.Names.{same_set}
+-- What private clauses speak of: the two ways to decide as one, and the step of the code's one pass.
+-- No public clause rests on it.
+use Rattle.std.specs.Prelude.{Bool, not, ◌&&◌, nat_lt, Option, Some, None, List, if◌then◌else◌}
+use Rattle.std.specs.List.{find, list_all}
+use Rattle.std.specs.Option.{option_map}
 use Rattle.mc_convert.specs.Classes.{rank}
 use Rattle.mc_coerce.specs.declared.operand.Operand.{Operand}
 use Rattle.mc_coerce.specs.declared.demand.Demand.{Demand}
 use Rattle.mc_coerce.specs.declared.demand.Demand.TheVariants.{Beat, Share}
-use Rattle.mc_coerce.specs.Pair.{beats, explicit}
+use Rattle.mc_coerce.specs.Pair.{beats}
+use Rattle.mc_coerce.specs.Aggregate.{shares, won_by, shared_by}
 
--- The operands have one set and one level.
-abbrev pub same_set_and_level : Operand → Operand → Bool
-same_set_and_level a b = same_set a.charset b.charset && nat_eq a.level b.level
-
--- The demand of the first on the second: to beat it, or, not explicit, to beat it or to have its
--- set and level.
+-- The demand of the first on the second: to beat it, or to share with it.
 abbrev pub meets : Demand → Operand → Operand → Bool
 meets Beat a b = beats a b
-meets Share a b = nat_lt explicit a.level && (beats a b || same_set_and_level a b)
+meets Share a b = shares a b
 
 -- It meets the demand to each of the operands.
 abbrev pub decides : Demand → List Operand → Operand → Bool
 decides demand operands a = list_all (meets demand a) operands
+
+-- What the operands have together where this one decides.
+abbrev pub outcome : Demand → List Operand → Operand → Operand
+outcome Beat operands a = won_by operands a
+outcome Share operands a = shared_by operands a
+
+-- What they have together through one of them that meets the demand to each.
+abbrev pub decision : Demand → List Operand → Option Operand
+decision demand operands =
+    option_map (outcome demand operands) (find (decides demand operands) operands)
 
 -- Its repertoire is less than the other one's.
 abbrev pub has_less : Operand → Operand → Bool

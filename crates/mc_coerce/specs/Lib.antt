@@ -1,5 +1,6 @@
+pub mod Levels
 pub mod Operand
 pub mod Sets
 pub mod Pair
-pub mod Demand
 pub mod Aggregate
+pub mod Demand

@@ -2,10 +2,7 @@
 use Rattle.std.specs.Prelude.{◌≡◌, ℕ, ◌<◌, ◌≤◌, ◌↔◌, List, IsTrue}
 use Rattle.std.specs.List.{All}
 use Rattle.mc_coerce.specs.declared.operand.Operand.{Operand}
-
--- The level of what takes no part, as NULL: the highest one.
-abbrev pub ignorable : ℕ
-ignorable = 6
+use Rattle.mc_coerce.specs.Levels.{ignorable}
 
 -- How many collations are built in; their numbers begin at 0.
 abbrev pub built_in_count : ℕ

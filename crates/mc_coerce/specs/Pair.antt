@@ -1,16 +1,13 @@
 -- The pair table of coercibility: MySQL 8.0 manual, 10.8.4, completed for operands of other sets.
-use Rattle.std.specs.Prelude.{ℕ, Bool, false, not, ◌&&◌, ◌||◌, nat_eq, nat_lt, nat_le}
+use Rattle.std.specs.Prelude.{Bool, false, not, ◌&&◌, ◌||◌, nat_eq, nat_lt, nat_le}
 use Rattle.std.specs.Prelude.{if◌then◌else◌}
 use Rattle.mc_charset.specs.Names.{same_set}
 use Rattle.mc_convert.specs.Classes.{rank, cap_of}
 use Rattle.mc_convert.specs.Conversion.{is_binary}
 use Rattle.mc_convert.specs.declared.repertoire.Repertoire.TheVariants.{Ascii}
 use Rattle.mc_coerce.specs.declared.operand.Operand.{Operand}
+use Rattle.mc_coerce.specs.Levels.{explicit}
 use Rattle.mc_coerce.specs.Sets.{extends, is_unicode_beside_other, are_unicode_apart}
-
--- The level of COLLATE.
-abbrev pub explicit : ℕ
-explicit = 0
 
 -- The operands have one collation.
 abbrev pub same_collation : Operand → Operand → Bool

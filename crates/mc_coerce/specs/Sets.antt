@@ -17,7 +17,7 @@ bin_collation_of Ucs2 = 5
 bin_collation_of Utf16 = 6
 bin_collation_of Utf32 = 7
 
--- The set holds the other one's characters and more.
+-- The two sets, in this order, are utf8mb4 and utf8mb3, utf16 and ucs2, or latin1 and ascii.
 abbrev pub extends : Charset → Charset → Bool
 extends Utf8mb4 Utf8mb3 = true
 extends Utf16 Ucs2 = true
@@ -29,7 +29,7 @@ abbrev pub is_unicode_beside_other : Charset → Charset → Bool
 is_unicode_beside_other set other =
     is_unicode_set set && (not (is_unicode_set other) && not (is_binary other))
 
--- Both sets are Unicode, and neither extends the other.
+-- Both sets are Unicode, and in neither order they are one of the pairs of `extends`.
 abbrev pub are_unicode_apart : Charset → Charset → Bool
 are_unicode_apart set other =
     (is_unicode_set set && is_unicode_set other) && not (extends set other || extends other set)

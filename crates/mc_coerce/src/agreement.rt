@@ -1,12 +1,12 @@
-ghost use Rattle.mc_coerce.specs.Aggregate.{agreed, aggregate, class_in_set, counted, decision};
-ghost use Rattle.mc_coerce.specs.Aggregate.{greatest, is_refused, later, of_bin, outcome};
-ghost use Rattle.mc_coerce.specs.Aggregate.{takes_part};
-ghost use Rattle.mc_coerce.specs.Demand.{decides};
+ghost use Rattle.mc_coerce.specs.Aggregate.{agreed, aggregate, class_in_set, counted, greatest};
+ghost use Rattle.mc_coerce.specs.Aggregate.{is_refused, later, of_bin, takes_part};
+ghost use Rattle.mc_coerce.specs.Demand.{decides, decision, outcome};
 ghost use Rattle.mc_coerce.specs.Operand.{AreOperands};
 ghost use Rattle.std.specs.Prelude.{◌≡◌, length};
 
 use crate::demand::{Demand, contender, meets};
-use crate::operand::{Agg, IGNORABLE, NO_COLLATION, Operand, Purpose};
+use crate::levels::{IGNORABLE, NO_COLLATION};
+use crate::operand::{Agg, Operand, Purpose};
 use mc_charset::{Charset, bin_of};
 use mc_convert::Repertoire;
 
@@ -152,8 +152,9 @@ fn of_bin(set: Charset, level: u8, repertoire: Repertoire) -> Operand
     }
 }
 
-/// Whether the operand has a say.
-fn takes_part(operand: &Operand) -> bool
+/// Whether the operand has a say in what a list has together: whether its level isn't that of NULL.
+/// A message of an illegal mix counts those alone.
+pub fn takes_part(operand: &Operand) -> bool
     ensures { result ≡ takes_part operand.now }
 {
     operand.level < IGNORABLE

@@ -2,7 +2,8 @@ ghost use Rattle.mc_coerce.specs.Operand.{AgreeOnSet, AreOperands, IsOperand};
 ghost use Rattle.std.specs.List.{All};
 ghost use Rattle.std.specs.Prelude.{◌↔◌, IsTrue};
 
-use crate::operand::{IGNORABLE, Operand};
+use crate::levels::IGNORABLE;
+use crate::operand::Operand;
 
 /// How many collations are built in; their numbers begin at 0.
 const BUILT_IN_COUNT: u32 = 9;

@@ -1,7 +1,9 @@
-ghost use Rattle.mc_coerce.specs.Demand.{contender, has_less, meets, same_set_and_level};
+ghost use Rattle.mc_coerce.specs.Aggregate.{same_set_and_level, shares};
+ghost use Rattle.mc_coerce.specs.Demand.{contender, has_less, meets};
 ghost use Rattle.std.specs.Prelude.{◌≡◌};
 
-use crate::operand::{EXPLICIT, Operand};
+use crate::levels::EXPLICIT;
+use crate::operand::Operand;
 use crate::pair::beats;
 use mc_charset::same_set;
 
@@ -10,7 +12,7 @@ use mc_charset::same_set;
 pub(crate) enum Demand {
     /// To beat it.
     Beat,
-    /// Not explicit, to beat it or to have its set and level.
+    /// To share with it.
     Share,
 }
 
@@ -20,7 +22,7 @@ pub(crate) fn meets(demand: Demand, a: &Operand, b: &Operand) -> bool
 {
     match demand {
         Demand::Beat => beats(a, b),
-        Demand::Share => a.level > EXPLICIT && (beats(a, b) || has_same_set_and_level(a, b)),
+        Demand::Share => shares(a, b),
     }
 }
 
@@ -39,6 +41,13 @@ pub(crate) fn contender(demand: Demand, candidate: Option<Operand>, b: &Operand)
             }
         }
     }
+}
+
+/// Whether the first operand isn't explicit, and beats the second or has its set and level.
+fn shares(a: &Operand, b: &Operand) -> bool
+    ensures { result ≡ shares a.now b.now }
+{
+    a.level > EXPLICIT && (beats(a, b) || has_same_set_and_level(a, b))
 }
 
 fn has_same_set_and_level(a: &Operand, b: &Operand) -> bool

@@ -6,10 +6,10 @@
 //! (`aggregate`). `aggregate(&[column, literal], Purpose::Compare)` answers the collation of the
 //! comparison `column = literal`, or `Agg::Mix`: an illegal mix of collations.
 //!
-//! The levels and their order are those of the MySQL 8.0 manual, 10.8.4, the repertoires those of
-//! 10.2.1; the table for operands of different sets is this project's own.
+//! The levels and their order are those of the MySQL 8.0 manual, 10.8.4. The chain of repertoires,
+//! finer than those of 10.2.1, and the table for operands of different sets are this project's.
 //!
-//! Modules in reading order: `operand`, `condition` (what operands keep to), `sets` (character sets
+//! Modules in reading order: `levels`, `operand`, `condition` (what operands keep to), `sets` (character sets
 //! beside each other), `pair` (two operands), `demand` (what decides for a list), `agreement` (the
 //! list), `laws`.
 #![tactic(auto)]
@@ -18,6 +18,7 @@ mod agreement;
 mod condition;
 mod demand;
 mod laws;
+mod levels;
 #[cfg(test)]
 mod list_rows;
 mod operand;
@@ -28,8 +29,11 @@ mod sets;
 #[cfg(test)]
 mod tests;
 
-pub use agreement::aggregate;
+pub use agreement::{aggregate, takes_part};
 pub use condition::are_operands;
-pub use laws::{order_law, pair_law, repertoire_law, result_law};
+pub use laws::{mix_law, operands_law, order_law, pair_law, repertoire_law, result_law};
+pub use levels::{
+    COERCIBLE, EXPLICIT, IGNORABLE, IMPLICIT, NO_COLLATION, NUMERIC, SYSTEM_CONSTANT,
+};
 pub use operand::{Agg, Operand, Purpose};
 pub use pair::beats;

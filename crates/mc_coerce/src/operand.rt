@@ -1,13 +1,6 @@
 use mc_charset::{Charset, CollId};
 use mc_convert::Repertoire;
 
-/// The level of COLLATE.
-pub(crate) const EXPLICIT: u8 = 0;
-/// The level of a text whose operands have no collation together.
-pub(crate) const NO_COLLATION: u8 = 1;
-/// The level of NULL.
-pub(crate) const IGNORABLE: u8 = 6;
-
 /// An operand of an operation on texts, as far as the choice of a collation looks at it.
 #[derive(Clone, Copy, Debug, PartialEq, Eq)]
 pub struct Operand {

@@ -2,7 +2,8 @@ ghost use Rattle.mc_coerce.specs.Pair.{beats, beats_across_sets, beats_in_set, h
 ghost use Rattle.mc_coerce.specs.Pair.{is_ascii};
 ghost use Rattle.std.specs.Prelude.{◌≡◌};
 
-use crate::operand::{EXPLICIT, Operand};
+use crate::levels::EXPLICIT;
+use crate::operand::Operand;
 use crate::sets::{are_unicode_apart, extends, is_binary, is_unicode_beside_other};
 use mc_charset::same_set;
 use mc_convert::{Repertoire, cap};

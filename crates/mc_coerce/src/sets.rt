@@ -14,7 +14,8 @@ pub(crate) fn is_binary(set: Charset) -> bool
     }
 }
 
-/// Whether the set holds the other one's characters and more, in the same order.
+/// Whether the two sets, in this order, are utf8mb4 and utf8mb3, utf16 and ucs2, or latin1 and
+/// ascii.
 pub(crate) fn extends(set: Charset, other: Charset) -> bool
     ensures { result ≡ extends set other }
 {
@@ -33,7 +34,7 @@ pub(crate) fn is_unicode_beside_other(set: Charset, other: Charset) -> bool
     is_unicode(set) && !is_unicode(other) && !is_binary(other)
 }
 
-/// Whether both sets are Unicode and neither extends the other.
+/// Whether both sets are Unicode, and in neither order one of the pairs of `extends`.
 pub(crate) fn are_unicode_apart(set: Charset, other: Charset) -> bool
     ensures { result ≡ are_unicode_apart set other }
 {

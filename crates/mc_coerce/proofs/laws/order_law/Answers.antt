@@ -1,4 +1,5 @@
-use Rattle.mc_coerce.proofs.AnyOrder.{any_order, one_winner, one_shared_set, won, shared_by}
+use Rattle.mc_coerce.proofs.AnyOrder.{any_order, one_winner, one_shared_set, won}
+use Rattle.mc_coerce.proofs.Mixes.{compared, shared}
 use Rattle.mc_coerce.proofs.laws.order_law.Goals as goal
 
 pub returns : goal.returns
@@ -7,5 +8,6 @@ returns c = record {
   one_winner = one_winner;
   one_set = one_shared_set;
   won = won;
-  shared = shared_by;
+  compared = compared;
+  shared = shared;
 }
