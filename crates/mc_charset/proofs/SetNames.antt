@@ -65,9 +65,31 @@ NamesLow low set = (low ≡ name_of set) ⊎ ((low ≡ codes "utf8") × (set ≡
 
 named_low : (low : List ℕ) (set : Charset) → set_in named_sets low ≡ Some set → NamesLow low set
 named_low low set e =
-    found_has (NamesLow low) low named_sets set
-    (λ h. inl h, (λ h. inl h, (λ h. inl h, (λ h. inl h, (λ h. inl h, (λ h. inl h, (λ h. inl h, (λ h. inl h,
-    (λ h. inr (h, refl), tt))))))))) e
+    found_has (NamesLow low) low named_sets set (
+      λ h. inl h,
+      (
+        λ h. inl h,
+        (
+          λ h. inl h,
+          (
+            λ h. inl h,
+            (
+              λ h. inl h,
+              (
+                λ h. inl h,
+                (
+                  λ h. inl h,
+                  (
+                    λ h. inl h,
+                    (λ h. inr (h, refl), tt),
+                  ),
+                ),
+              ),
+            ),
+          ),
+        ),
+      ),
+    ) e
 
 own_low : (set : Charset) → set_in named_sets (name_of set) ≡ Some set
 own_low Latin1 = refl
