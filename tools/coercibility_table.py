@@ -4,8 +4,9 @@
     coercibility_table.py pairs > crates/mc_coerce/src/pair_rows.rt
     coercibility_table.py lists > crates/mc_coerce/src/list_rows.rt
 
-`rt fmt` lays them out. The answers come from the rules alone, by every pair of operands: nothing
-here is shared with the crate, which goes over a list with one candidate.
+They are laid out as `rt fmt` does. The answers come from the rules alone, by every pair of operands:
+nothing here is shared with the crate, which goes over a list with one candidate. `.ci/run` compares
+what is printed with the files.
 """
 
 import sys
@@ -30,6 +31,8 @@ WIDER = {("Utf8mb4", "Utf8mb3"), ("Utf16", "Ucs2"), ("Latin1", "Ascii")}
 
 BUILT_IN = 9
 """How many collations are built in; 9 to 16 are declared ones of the eight sets, 17 to 24 too."""
+UTF8MB4_0900_BIN = 8
+"""The built-in collation beside the eight of the sets."""
 
 EXPLICIT, NO_COLLATION, IMPLICIT, CONSTANT, COERCIBLE, NUMERIC, IGNORABLE = range(7)
 
@@ -49,6 +52,8 @@ class Operand(NamedTuple):
     def text(self) -> str:
         """The operand as the test reads it: set, kind of collation, level and repertoire."""
         kind = "bin" if self.is_bin() else "ci" if self.collation < BUILT_IN + 8 else "cs"
+        if self.collation == UTF8MB4_0900_BIN:
+            kind = "0900_bin"
         return f"{self.charset} {kind} {self.level} {self.repertoire}".lower()
 
 
@@ -138,10 +143,15 @@ def of_two_sets(first: str, second: str) -> list[tuple[Operand, Operand]]:
 
 
 def of_one_set(charset: str) -> list[tuple[Operand, Operand]]:
-    """Pairs of operands of one set: one collation, a binary one beside another one, and two."""
+    """Pairs of operands of one set: one collation, a binary one beside another one, and two.
+
+    Of utf8mb4 there are two built-in collations, neither of which beats the other.
+    """
     binary = operand(charset, 0, IMPLICIT, GREATEST[charset])
     one, other = (operand(charset, kind, IMPLICIT, GREATEST[charset]) for kind in (1, 2))
+    built_in = [(binary, binary._replace(collation=UTF8MB4_0900_BIN))] if charset == "Utf8mb4" else []
     return [
+        *built_in,
         (one, one._replace(repertoire="Ascii")),
         (one, one._replace(level=CONSTANT)),
         (one, other),
@@ -201,6 +211,17 @@ NAMED = {
 """Operands of the lists, by their names."""
 
 LISTS = {
+    "SHORT": [
+        ("", "no operand"),
+        ("LATIN1_MIXED", "one operand of no collation"),
+        ("SWEDISH", "one column"),
+        ("NULL", "one NULL"),
+        ("SWEDISH GERMAN", "two columns"),
+        ("SWEDISH LETTERS", "a column and a literal of ASCII"),
+        ("SWEDISH CYRILLIC", "a column and a literal that its set lacks"),
+        ("SWEDISH BYTES", "a column and a byte above 7F"),
+        ("LATIN1_MIXED LETTERS", "two columns joined, and a literal"),
+    ],
     "COLUMNS": [
         ("SWEDISH SWEDISH LETTERS", "a column beats a literal of ASCII"),
         ("SWEDISH LETTERS CYRILLIC", "a character that the column's set lacks"),
@@ -242,6 +263,9 @@ LISTS = {
 }
 """Tables of lists of operands, and what each list shows."""
 
+ONE_LINE = 60
+"""How wide the elements of an array may be that stands in one line."""
+
 HEADER = "//! Printed by tools/coercibility_table.py, which works the answers out from the rules."
 
 
@@ -279,9 +303,12 @@ def print_list(names: list[str], why: str) -> None:
     compare, text = aggregate(operands, False), aggregate(operands, True)
     for other in permutations(operands):
         assert (aggregate(list(other), False), aggregate(list(other), True)) == (compare, text)
-    texts = ", ".join(f'b"{each.text()}"' for each in operands)
+    texts = [f'b"{each.text()}"' for each in operands]
     print("    Row {")
-    print(f"        operands: &[{texts}],")
+    if len(", ".join(texts)) <= ONE_LINE:
+        print(f"        operands: &[{', '.join(texts)}],")
+    else:
+        print("        operands: &[", *(f"            {text}," for text in texts), "        ],", sep="\n")
     print(f'        compare: b"{show(compare)}",')
     print(f'        text: b"{show(text)}",')
     print(f'        why: "{why}",')

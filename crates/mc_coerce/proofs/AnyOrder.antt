@@ -23,15 +23,15 @@ use Rattle.mc_coerce.specs.declared.demand.Demand.{Demand}
 use Rattle.mc_coerce.specs.declared.demand.Demand.TheVariants.{Beat, Share}
 use Rattle.mc_coerce.specs.Operand.{IsOperand, AgreeOnSet, AreOperands}
 use Rattle.mc_coerce.specs.Pair.{beats}
-use Rattle.mc_coerce.specs.Demand.{meets, decides, outcome, decision}
+use Rattle.mc_coerce.specs.Demand.{meets, decides, result_of, result_by}
 use Rattle.mc_coerce.specs.Aggregate.{takes_part, counted, later, greatest, class_in_set, of_bin}
-use Rattle.mc_coerce.specs.Aggregate.{agreed, uses_or_mix, aggregate}
+use Rattle.mc_coerce.specs.Aggregate.{result_for, uses_or_mix, aggregate}
 use Rattle.mc_coerce.proofs.PairTable.{wins, beaten, each_other, same_number}
 use Rattle.mc_coerce.proofs.PairTable.{in_collation}
 use Rattle.mc_coerce.proofs.Members.{Found, find-any, find-none}
 use Rattle.mc_coerce.proofs.Election.{Alike, AlikeBeat, AlikeShare, meet_each_other, meets_member}
-use Rattle.mc_coerce.proofs.Election.{alike, outcome-alike, decider}
-use Rattle.mc_coerce.proofs.Aggregates.{AreOperands-counted, aggregate-none, aggregate-some}
+use Rattle.mc_coerce.proofs.Election.{alike, result_of-alike, decider}
+use Rattle.mc_coerce.proofs.Origins.{AreOperands-counted, aggregate-none, aggregate-some}
 
 -- Tests and classes
 
@@ -83,7 +83,7 @@ above_later n a b =
 
 -- Of a text, what operands have together where this is what they have through a winner.
 abbrev or_shared : List Operand → Option Operand → Option Operand
-or_shared operands o = option_or o (decision Share operands)
+or_shared operands o = option_or o (result_by Share operands)
 
 -- Pairs
 
@@ -129,7 +129,7 @@ has_member list a c h = let l = c.1 in omega arith
 
 pub won : (list : List Operand) (a : Operand) → AreOperands list → Contains (counted list) a
     → decides Beat (counted list) a ≡ true
-    → aggregate list Text ≡ Uses (outcome Beat (counted list) a)
+    → aggregate list Text ≡ Uses (result_of Beat (counted list) a)
 won list a ops c h =
     aggregate-some list Text (has_member (counted list) a c)
     ∙ ap (λ o. uses_or_mix (or_shared (counted list) o))
@@ -137,14 +137,14 @@ won list a ops c h =
 
 pub no_decider : (demand : Demand) (list : List Operand)
     → ((b : Operand) → Contains list b → decides demand list b ≡ true → ⊥)
-    → decision demand list ≡ None
+    → result_by demand list ≡ None
 no_decider demand list h =
     elim (cases_Bool (list_any (decides demand list) list)) [
       | inl t ↦
           let r : (y : Operand) × Found (decides demand list) list y =
           find-any (decides demand list) list t in
           absurd (h r.0 r.1.within r.1.passes)
-      | inr f ↦ ap (option_map (outcome demand list)) (find-none (decides demand list) list f)
+      | inr f ↦ ap (option_map (result_of demand list)) (find-none (decides demand list) list f)
     ]
 
 -- The order of operands
@@ -199,12 +199,12 @@ same_greatest list other h =
     (λ k. above_greatest k list ∙ h (λ x. ltb k (rank x.repertoire))
     ∙ sym (above_greatest k other)))
 
-same_outcome : (demand : Demand) (list other : List Operand) (a : Operand) → SameTests list other
-    → outcome demand list a ≡ outcome demand other a
-same_outcome Beat list other a h =
+same_result_of : (demand : Demand) (list other : List Operand) (a : Operand) → SameTests list other
+    → result_of demand list a ≡ result_of demand other a
+same_result_of Beat list other a h =
     ap (λ (g : Repertoire). record a { repertoire = class_in_set a.charset g })
     (same_greatest list other h)
-same_outcome Share list other a h =
+same_result_of Share list other a h =
     ap (λ (g : Repertoire). of_bin a.charset 1 (class_in_set a.charset g))
     (same_greatest list other h)
 
@@ -241,14 +241,14 @@ over_lists demand list other a b ops h c d k l =
     (meets_member demand (counted list) b a c
     (same_decides demand (counted list) (counted other) b tests ∙ l))
 
-decision-found : (demand : Demand) (list : List Operand) (a : Operand)
-    → Found (decides demand list) list a → decision demand list ≡ Some (outcome demand list a)
-decision-found demand list a h = ap (option_map (outcome demand list)) h.found
+result_by-found : (demand : Demand) (list : List Operand) (a : Operand)
+    → Found (decides demand list) list a → result_by demand list ≡ Some (result_of demand list a)
+result_by-found demand list a h = ap (option_map (result_of demand list)) h.found
 
-decision-none : (demand : Demand) (list : List Operand)
-    → list_any (decides demand list) list ≡ false → decision demand list ≡ None
-decision-none demand list h =
-    ap (option_map (outcome demand list)) (find-none (decides demand list) list h)
+result_by-none : (demand : Demand) (list : List Operand)
+    → list_any (decides demand list) list ≡ false → result_by demand list ≡ None
+result_by-none demand list h =
+    ap (option_map (result_of demand list)) (find-none (decides demand list) list h)
 
 -- Whether some operand decides.
 same_any : (demand : Demand) (list other : List Operand) → SameTests list other
@@ -257,10 +257,10 @@ same_any demand list other h =
     any_agree (decides demand list) (decides demand other)
     (λ x. same_decides demand list other x h) list ∙ h (decides demand other)
 
-same_decision : (demand : Demand) (list other : List Operand) → AreOperands list
+same_result_by : (demand : Demand) (list other : List Operand) → AreOperands list
     → IsPermutation list other
-    → decision demand (counted list) ≡ decision demand (counted other)
-same_decision demand list other ops h =
+    → result_by demand (counted list) ≡ result_by demand (counted other)
+same_result_by demand list other ops h =
     let tests : SameTests (counted list) (counted other) = same_tests list other h in
     let some = same_any demand (counted list) (counted other) tests in
     elim (cases_Bool (list_any (decides demand (counted list)) (counted list))) [
@@ -269,13 +269,13 @@ same_decision demand list other ops h =
           find-any (decides demand (counted list)) (counted list) t in
           let q : (y : Operand) × Found (decides demand (counted other)) (counted other) y =
           find-any (decides demand (counted other)) (counted other) (sym some ∙ t) in
-          decision-found demand (counted list) r.0 r.1
-          ∙ ap Some (same_outcome demand (counted list) (counted other) r.0 tests
-          ∙ outcome-alike demand (counted other) r.0 q.0
+          result_by-found demand (counted list) r.0 r.1
+          ∙ ap Some (same_result_of demand (counted list) (counted other) r.0 tests
+          ∙ result_of-alike demand (counted other) r.0 q.0
           (over_lists demand list other r.0 q.0 ops h r.1.within q.1.within r.1.passes q.1.passes))
-          ∙ sym (decision-found demand (counted other) q.0 q.1)
-      | inr f ↦ decision-none demand (counted list) f
-          ∙ sym (decision-none demand (counted other) (sym some ∙ f))
+          ∙ sym (result_by-found demand (counted other) q.0 q.1)
+      | inr f ↦ result_by-none demand (counted list) f
+          ∙ sym (result_by-none demand (counted other) (sym some ∙ f))
     ]
 
 same_length : (list other : List Operand) → IsPermutation list other
@@ -287,7 +287,7 @@ same_length list other h =
 
 both_none_or_some : (list other : List Operand) (purpose : Purpose)
     → length (counted list) ≡ length (counted other)
-    → agreed purpose (counted list) ≡ agreed purpose (counted other)
+    → result_for purpose (counted list) ≡ result_for purpose (counted other)
     → aggregate list purpose ≡ aggregate other purpose
 both_none_or_some list other purpose h k =
     elim (cases_eq (length (counted list)) 0) [
@@ -301,18 +301,19 @@ refuses : ℕ → Option Operand → Option Operand
 refuses n o =
     option_and_then (λ (x : Operand). cond (ltb 1 n && eqb x.level 1) None (Some x)) o
 
-same_agreed : (purpose : Purpose) (list other : List Operand) → AreOperands list
-    → IsPermutation list other → agreed purpose (counted list) ≡ agreed purpose (counted other)
+same_result_for : (purpose : Purpose) (list other : List Operand) → AreOperands list
+    → IsPermutation list other
+    → result_for purpose (counted list) ≡ result_for purpose (counted other)
 unfolding refuses
-same_agreed Compare list other ops h =
-    ap (refuses (length (counted list))) (same_decision Beat list other ops h)
-    ∙ ap (λ n. refuses n (decision Beat (counted other))) (same_length list other h)
-same_agreed Text list other ops h =
-    ap (or_shared (counted list)) (same_decision Beat list other ops h)
-    ∙ ap (option_or (decision Beat (counted other))) (same_decision Share list other ops h)
+same_result_for Compare list other ops h =
+    ap (refuses (length (counted list))) (same_result_by Beat list other ops h)
+    ∙ ap (λ n. refuses n (result_by Beat (counted other))) (same_length list other h)
+same_result_for Text list other ops h =
+    ap (or_shared (counted list)) (same_result_by Beat list other ops h)
+    ∙ ap (option_or (result_by Beat (counted other))) (same_result_by Share list other ops h)
 
 pub any_order : (list other : List Operand) (purpose : Purpose) → AreOperands list
     → IsPermutation list other → aggregate list purpose ≡ aggregate other purpose
 any_order list other purpose ops h =
     both_none_or_some list other purpose (same_length list other h)
-    (same_agreed purpose list other ops h)
+    (same_result_for purpose list other ops h)

@@ -20,7 +20,7 @@ use Rattle.mc_coerce.specs.declared.demand.Demand.TheVariants.{Beat, Share}
 use Rattle.mc_coerce.specs.Levels.{no_collation}
 use Rattle.mc_coerce.specs.Operand.{built_in_count, IsOperand, AgreeOnSet, AreOperands}
 use Rattle.mc_coerce.specs.Pair.{beats}
-use Rattle.mc_coerce.specs.Demand.{meets, decides, has_less, contender, outcome, decision}
+use Rattle.mc_coerce.specs.Demand.{meets, decides, has_less, contender, result_of, result_by}
 use Rattle.mc_coerce.specs.Aggregate.{same_set_and_level, greatest, class_in_set, of_bin}
 use Rattle.mc_coerce.proofs.SetTests.{same_set-true, same_set-from}
 use Rattle.mc_coerce.proofs.PairTable.{wins, beaten, each_other, keeps_wins, Shares}
@@ -224,7 +224,7 @@ elect-within demand list a (x ∷ xs) c within =
     (contender_within demand list a x c (within zero x (omega arith)))
     (All-tail (Contains list) x xs within)
 
--- The decision
+-- The result
 
 make : Charset → CollId → Bool → ℕ → Repertoire → Operand
 make set collation bin level class = record {
@@ -245,31 +245,32 @@ same_beat s t c d p q m n class e f g h =
     ∙ ap (λ (x : Bool). make t d x m (class_in_set t class)) g
     ∙ ap (λ (x : ℕ). make t d q x (class_in_set t class)) h
 
-pub outcome-alike : (demand : Demand) (list : List Operand) (a b : Operand) → Alike demand a b
-    → outcome demand list a ≡ outcome demand list b
+pub result_of-alike : (demand : Demand) (list : List Operand) (a b : Operand) → Alike demand a b
+    → result_of demand list a ≡ result_of demand list b
 unfolding make same_beat
-outcome-alike Beat list a b h =
+result_of-alike Beat list a b h =
     same_beat a.charset b.charset a.collation b.collation a.bin b.bin a.level b.level
     (greatest list) h.set h.collation h.bin h.level
-outcome-alike Share list a b h =
+result_of-alike Share list a b h =
     ap (λ (s : Charset). of_bin s no_collation (class_in_set s (greatest list))) h.set
 
--- Any decider gives the decision.
+-- Any decider gives the result.
 pub decider : (demand : Demand) (list : List Operand) (a : Operand) → AreOperands list
     → Contains list a → decides demand list a ≡ true
-    → decision demand list ≡ Some (outcome demand list a)
+    → result_by demand list ≡ Some (result_of demand list a)
 decider demand list a ops c h =
     let r : (y : Operand) × Found (decides demand list) list y =
     find-any (decides demand list) list (any_member (decides demand list) list a c h) in
-    ap (option_map (outcome demand list)) r.1.found
-    ∙ ap Some (outcome-alike demand list r.0 a
+    ap (option_map (result_of demand list)) r.1.found
+    ∙ ap Some (result_of-alike demand list r.0 a
     (alike demand list r.0 a ops r.1.within c
     (meets_member demand list r.0 a c r.1.passes) (meets_member demand list a r.0 r.1.within h)))
 
--- What the candidate says of the decision.
+-- What the candidate says of the result.
 pub record Candidate (demand : Demand) (list : List Operand) (a : Operand) : Type 0 where
-  pub decided : decides demand list a ≡ true → decision demand list ≡ Some (outcome demand list a)
-  pub undecided : decides demand list a ≡ false → decision demand list ≡ None
+  pub decided : decides demand list a ≡ true
+      → result_by demand list ≡ Some (result_of demand list a)
+  pub undecided : decides demand list a ≡ false → result_by demand list ≡ None
 
 pub elected : (demand : Demand) (list : List Operand) (a : Operand) → AreOperands list
     → elect_from demand None list ≡ Some a → Candidate demand list a
@@ -288,6 +289,6 @@ elected demand (x ∷ xs) a ops e =
         | inl k ↦ absurd (both_ways (decides demand list a) h
             (ap (decides demand list) (sym is)
             ∙ elect-decides demand list x xs ops first rest k))
-        | inr k ↦ ap (option_map (outcome demand list)) (find-none (decides demand list) list k)
+        | inr k ↦ ap (option_map (result_of demand list)) (find-none (decides demand list) list k)
       ];
     }

@@ -2,7 +2,7 @@ pub mod SetTests
 pub mod PairTable
 pub mod Members
 pub mod Election
-pub mod Aggregates
+pub mod Origins
 pub mod AnyOrder
 pub mod Mixes
 pub mod Repertoires

@@ -16,12 +16,12 @@ use Rattle.mc_coerce.specs.declared.demand.Demand.TheVariants.{Beat, Share}
 use Rattle.mc_coerce.specs.Levels.{no_collation}
 use Rattle.mc_coerce.specs.Operand.{AreOperands}
 use Rattle.mc_coerce.specs.Pair.{beats}
-use Rattle.mc_coerce.specs.Demand.{decides, outcome, decision}
+use Rattle.mc_coerce.specs.Demand.{decides, result_of, result_by}
 use Rattle.mc_coerce.specs.Aggregate.{counted, beats_each, won_by, HasWinner, HasSharer}
-use Rattle.mc_coerce.specs.Aggregate.{is_refused, agreed, uses_or_mix, aggregate}
+use Rattle.mc_coerce.specs.Aggregate.{is_refused, result_for, uses_or_mix, aggregate}
 use Rattle.mc_coerce.proofs.Members.{any_member, Found, find-any}
 use Rattle.mc_coerce.proofs.Election.{decider}
-use Rattle.mc_coerce.proofs.Aggregates.{AreOperands-counted, aggregate-none, aggregate-some}
+use Rattle.mc_coerce.proofs.Origins.{AreOperands-counted, aggregate-none, aggregate-some}
 use Rattle.mc_coerce.proofs.AnyOrder.{beats_itself, no_decider, has_member}
 
 -- One of the operands decides.
@@ -36,18 +36,18 @@ HasNoCollation operands =
 some_not_none : (a : Operand) → Some a ≡ None → ⊥
 some_not_none a h = cc
 
--- If one decides, there is a decision.
+-- If one decides, there is a result.
 not_undecided : (demand : Demand) (operands : List Operand) → HasDecider demand operands
-    → decision demand operands ≡ None → ⊥
+    → result_by demand operands ≡ None → ⊥
 not_undecided demand operands w none =
     let r : (y : Operand) × Found (decides demand operands) operands y =
     find-any (decides demand operands) operands
     (any_member (decides demand operands) operands w.1 (w.0, w.2, w.3) w.4) in
-    some_not_none (outcome demand operands r.0)
-    (sym (ap (option_map (outcome demand operands)) r.1.found) ∙ none)
+    some_not_none (result_of demand operands r.0)
+    (sym (ap (option_map (result_of demand operands)) r.1.found) ∙ none)
 
 undecided : (demand : Demand) (operands : List Operand) → (HasDecider demand operands → ⊥)
-    → decision demand operands ≡ None
+    → result_by demand operands ≡ None
 undecided demand operands none =
     no_decider demand operands (λ b c h. none (c.0, b, c.1, c.2, h))
 
@@ -74,7 +74,7 @@ refuse : List Operand → Option Operand → Option Operand
 refuse operands o =
     option_and_then (λ (r : Operand). cond (is_refused operands r) None (Some r)) o
 
-compare_none : (operands : List Operand) → length operands ≢ 0 → agreed Compare operands ≡ None
+compare_none : (operands : List Operand) → length operands ≢ 0 → result_for Compare operands ≡ None
     → MixesCompare operands
 unfolding refuse
 compare_none operands n h =
@@ -82,8 +82,8 @@ compare_none operands n h =
       | inl t ↦
           let r : (y : Operand) × Found (decides Beat operands) operands y =
           find-any (decides Beat operands) operands t in
-          let d : decision Beat operands ≡ Some (won_by operands r.0) =
-          ap (option_map (outcome Beat operands)) r.1.found in
+          let d : result_by Beat operands ≡ Some (won_by operands r.0) =
+          ap (option_map (result_of Beat operands)) r.1.found in
           let f : is_refused operands (won_by operands r.0) ≡ true =
           refused_only (is_refused operands (won_by operands r.0)) (won_by operands r.0)
           (sym (ap (refuse operands) d) ∙ h) in
@@ -104,7 +104,7 @@ compare_none operands n h =
     ]
 
 none_compares : (operands : List Operand) → AreOperands operands → MixesCompare operands
-    → agreed Compare operands ≡ None
+    → result_for Compare operands ≡ None
 unfolding refuse
 none_compares operands ops h =
     elim h.1 [
@@ -127,19 +127,19 @@ or_none : (o p : Option Operand) → option_or o p ≡ None → (o ≡ None) × 
 or_none None p h = (refl, h)
 or_none (Some x) p h = absurd (some_not_none x h)
 
-text_none : (operands : List Operand) → length operands ≢ 0 → agreed Text operands ≡ None
+text_none : (operands : List Operand) → length operands ≢ 0 → result_for Text operands ≡ None
     → MixesText operands
 text_none operands n h =
-    let e = or_none (decision Beat operands) (decision Share operands) h in
+    let e = or_none (result_by Beat operands) (result_by Share operands) h in
     let none : HasWinner operands → ⊥ = λ w. not_undecided Beat operands w e.0 in (
       more_than_one operands n none,
       none,
       (λ w. not_undecided Share operands w e.1),
     )
 
-none_shares : (operands : List Operand) → MixesText operands → agreed Text operands ≡ None
+none_shares : (operands : List Operand) → MixesText operands → result_for Text operands ≡ None
 none_shares operands h =
-    ap (λ (o : Option Operand). option_or o (decision Share operands))
+    ap (λ (o : Option Operand). option_or o (result_by Share operands))
     (undecided Beat operands h.1) ∙ undecided Share operands h.2
 
 -- Of a list
@@ -153,14 +153,14 @@ mix_none (Some x) h = absurd (uses_not_mix x h)
 
 -- A mix of operands, some of which take part.
 some_left : (list : List Operand) (purpose : Purpose) → aggregate list purpose ≡ Mix
-    → (length (counted list) ≢ 0) × (agreed purpose (counted list) ≡ None)
+    → (length (counted list) ≢ 0) × (result_for purpose (counted list) ≡ None)
 some_left list purpose h =
     let n : length (counted list) ≢ 0 =
     λ e. uses_not_mix _ (sym (aggregate-none list purpose e) ∙ h) in
     (n, mix_none _ (sym (aggregate-some list purpose n) ∙ h))
 
 mixed : (list : List Operand) (purpose : Purpose) → 1 < length (counted list)
-    → agreed purpose (counted list) ≡ None → aggregate list purpose ≡ Mix
+    → result_for purpose (counted list) ≡ None → aggregate list purpose ≡ Mix
 mixed list purpose l h =
     aggregate-some list purpose (λ e. omega arith) ∙ ap uses_or_mix h
 
@@ -206,9 +206,9 @@ compared list a ops c h l =
 pub shared : (list : List Operand) (a : Operand) → AreOperands list
     → (HasWinner (counted list) → ⊥) → Contains (counted list) a
     → decides Share (counted list) a ≡ true
-    → aggregate list Text ≡ Uses (outcome Share (counted list) a)
+    → aggregate list Text ≡ Uses (result_of Share (counted list) a)
 shared list a ops none c h =
     aggregate-some list Text (has_member (counted list) a c)
-    ∙ ap (λ (o : Option Operand). uses_or_mix (option_or o (decision Share (counted list))))
+    ∙ ap (λ (o : Option Operand). uses_or_mix (option_or o (result_by Share (counted list))))
     (undecided Beat (counted list) none)
     ∙ ap uses_or_mix (decider Share (counted list) a (AreOperands-counted list ops) c h)

@@ -20,13 +20,13 @@ use Rattle.mc_coerce.specs.declared.demand.Demand.{Demand}
 use Rattle.mc_coerce.specs.declared.demand.Demand.TheVariants.{Beat, Share}
 use Rattle.mc_coerce.specs.Levels.{ignorable}
 use Rattle.mc_coerce.specs.Operand.{AgreeOnSet, AreOperands}
-use Rattle.mc_coerce.specs.Demand.{meets, outcome}
+use Rattle.mc_coerce.specs.Demand.{meets, result_of}
 use Rattle.mc_coerce.specs.Aggregate.{counted, later, greatest, class_in_set, of_bin}
 use Rattle.mc_coerce.specs.Aggregate.{aggregate}
 use Rattle.mc_coerce.proofs.PairTable.{Wins, wins, one_set, in_collation, in_set}
 use Rattle.mc_coerce.proofs.PairTable.{across_sets}
 use Rattle.mc_coerce.proofs.Election.{shares, agrees, meets_member}
-use Rattle.mc_coerce.proofs.Aggregates.{AreOperands-counted, aggregate-from}
+use Rattle.mc_coerce.proofs.Origins.{AreOperands-counted, aggregate-from}
 
 -- Classes of a set
 
@@ -146,14 +146,14 @@ above_in_set operands set k d l =
     let h = greatest-above operands k d l in
     let m = at_least set (greatest operands) in omega arith
 
-outcome-least : (demand : Demand) (operands : List Operand) (a : Operand)
-    → IsLeast operands (outcome demand operands a)
-outcome-least Beat operands a = record {
+result_of-least : (demand : Demand) (operands : List Operand) (a : Operand)
+    → IsLeast operands (result_of demand operands a)
+result_of-least Beat operands a = record {
   of_set = twice a.charset (greatest operands);
   above = above_in_set operands a.charset;
   least = least_in_set operands a.charset;
 }
-outcome-least Share operands a = record {
+result_of-least Share operands a = record {
   of_set = twice a.charset (greatest operands);
   above = above_in_set operands a.charset;
   least = least_in_set operands a.charset;
@@ -175,7 +175,7 @@ aggregate-least list purpose together h =
     elim (aggregate-from list purpose together h) [
       | inl k ↦ subst (IsLeast (counted list)) (sym k.1) (none-least (counted list) k.0)
       | inr k ↦ subst (IsLeast (counted list)) (sym k.2.is)
-          (outcome-least k.0 (counted list) k.1)
+          (result_of-least k.0 (counted list) k.1)
     ]
 
 -- No character is lost
@@ -197,10 +197,10 @@ meets_keeps Share b a f h =
       | inr k ↦ inl (sym k.0)
     ]
 
-outcome-charset : (demand : Demand) (operands : List Operand) (b : Operand)
-    → b.charset ≡ (outcome demand operands b).charset
-outcome-charset Beat operands b = refl
-outcome-charset Share operands b = refl
+result_of-charset : (demand : Demand) (operands : List Operand) (b : Operand)
+    → b.charset ≡ (result_of demand operands b).charset
+result_of-charset Beat operands b = refl
+result_of-charset Share operands b = refl
 
 no_member : (operands : List Operand) (a : Operand) → operands ≡ [] → Contains operands a → ⊥
 no_member operands a e c = let l = c.1 in let f = ap length e in omega arith
@@ -215,7 +215,7 @@ aggregate-keeps list purpose together a ops h c =
           let agree : AgreeOnSet k.1 a = All-contains (AgreeOnSet k.1) (counted list) a
           (agrees (counted list) k.1 (AreOperands-counted list ops) k.2.within) c in
           subst (Keeps a)
-          (outcome-charset k.0 (counted list) k.1 ∙ ap (λ (r : Operand). r.charset) (sym k.2.is))
+          (result_of-charset k.0 (counted list) k.1 ∙ ap (λ (r : Operand). r.charset) (sym k.2.is))
           (meets_keeps k.0 k.1 a agree
           (meets_member k.0 (counted list) k.1 a c k.2.decides_all))
     ]

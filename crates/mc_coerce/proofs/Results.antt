@@ -15,19 +15,19 @@ use Rattle.mc_coerce.specs.Levels.{ignorable}
 use Rattle.mc_coerce.specs.Operand.{built_in_count, IsOperand, AreOperands}
 use Rattle.mc_coerce.specs.Sets.{bin_collation_of}
 use Rattle.mc_coerce.specs.Aggregate.{counted, of_bin, aggregate}
-use Rattle.mc_coerce.specs.Demand.{outcome}
+use Rattle.mc_coerce.specs.Demand.{result_of}
 use Rattle.mc_coerce.proofs.SetTests.{each_set}
-use Rattle.mc_coerce.proofs.Aggregates.{AreOperands-counted, aggregate-from}
+use Rattle.mc_coerce.proofs.Origins.{AreOperands-counted, aggregate-from}
 
 is_built_in : (set : Charset) → bin_collation_of set < built_in_count
 is_built_in set =
     ltb-true (bin_collation_of set) built_in_count
     (each_set (λ (s : Charset). ltb (bin_collation_of s) built_in_count) refl set)
 
-outcome-operand : (demand : Demand) (operands : List Operand) (a : Operand) → IsOperand a
-    → IsOperand (outcome demand operands a)
-outcome-operand Beat operands a h = record { level = h.level; bin = h.bin }
-outcome-operand Share operands a h = record {
+result_of-operand : (demand : Demand) (operands : List Operand) (a : Operand) → IsOperand a
+    → IsOperand (result_of demand operands a)
+result_of-operand Beat operands a h = record { level = h.level; bin = h.bin }
+result_of-operand Share operands a h = record {
   level = omega arith;
   bin = ((λ e. is_built_in a.charset), (λ e. refl));
 }
@@ -41,7 +41,7 @@ result_operand list purpose together ops h =
     elim (aggregate-from list purpose together h) [
       | inl k ↦ subst IsOperand (sym k.1) none-operand
       | inr k ↦ subst IsOperand (sym k.2.is)
-          (outcome-operand k.0 (counted list) k.1
+          (result_of-operand k.0 (counted list) k.1
           (All-contains IsOperand (counted list) k.1
           (AreOperands-counted list ops).each k.2.within))
     ]
@@ -52,10 +52,10 @@ Known operands r =
     Any (λ (a : Operand). (a.charset ≡ r.charset) × (a.collation ≡ r.collation)) operands
     ⊎ (r.collation.0 ≡ bin_collation_of r.charset)
 
-outcome-known : (demand : Demand) (operands : List Operand) (a : Operand) → Contains operands a
-    → Known operands (outcome demand operands a)
-outcome-known Beat operands a c = inl (c.0, a, c.1, c.2, (refl, refl))
-outcome-known Share operands a c = inr refl
+result_of-known : (demand : Demand) (operands : List Operand) (a : Operand) → Contains operands a
+    → Known operands (result_of demand operands a)
+result_of-known Beat operands a c = inl (c.0, a, c.1, c.2, (refl, refl))
+result_of-known Share operands a c = inr refl
 
 pub result_known : (list : List Operand) (purpose : Purpose) (together : Operand)
     → aggregate list purpose ≡ Uses together
@@ -66,5 +66,5 @@ result_known list purpose together h =
     elim (aggregate-from list purpose together h) [
       | inl k ↦ subst (Known (counted list)) (sym k.1) (inr refl)
       | inr k ↦ subst (Known (counted list)) (sym k.2.is)
-          (outcome-known k.0 (counted list) k.1 k.2.within)
+          (result_of-known k.0 (counted list) k.1 k.2.within)
     ]

@@ -99,11 +99,11 @@ abbrev pub is_refused : List Operand → Operand → Bool
 is_refused operands result = nat_lt 1 (length operands) && nat_eq result.level no_collation
 
 -- What they have together for a purpose, if anything.
-abbrev pub agreed : Purpose → List Operand → Option Operand
-agreed Compare operands =
+abbrev pub result_for : Purpose → List Operand → Option Operand
+result_for Compare operands =
     option_and_then (λ result. if is_refused operands result then None else Some result)
     (through_winner operands)
-agreed Text operands = option_or (through_winner operands) (through_sharer operands)
+result_for Text operands = option_or (through_winner operands) (through_sharer operands)
 
 -- The answer for what they have, if anything.
 abbrev pub uses_or_mix : Option Operand → Agg
@@ -113,7 +113,7 @@ uses_or_mix (Some result) = Uses result
 -- The aggregate of operands that all take part.
 abbrev pub aggregate_counted : List Operand → Purpose → Agg
 aggregate_counted [] purpose = Uses (of_bin Binary ignorable Ascii)
-aggregate_counted (operand ∷ others) purpose = uses_or_mix (agreed purpose (operand ∷ others))
+aggregate_counted (operand ∷ others) purpose = uses_or_mix (result_for purpose (operand ∷ others))
 
 -- The aggregate of operands.
 unfoldable pub aggregate : List Operand → Purpose → Agg

@@ -1,4 +1,4 @@
--- What private clauses speak of: the two ways to decide as one, and the step of the code's one pass.
+-- What private clauses speak of: the two ways to decide as one, and the step of the code's pass.
 -- No public clause rests on it.
 use Rattle.std.specs.Prelude.{Bool, not, ◌&&◌, nat_lt, Option, Some, None, List, if◌then◌else◌}
 use Rattle.std.specs.List.{find, list_all}
@@ -20,14 +20,14 @@ abbrev pub decides : Demand → List Operand → Operand → Bool
 decides demand operands a = list_all (meets demand a) operands
 
 -- What the operands have together where this one decides.
-abbrev pub outcome : Demand → List Operand → Operand → Operand
-outcome Beat operands a = won_by operands a
-outcome Share operands a = shared_by operands a
+abbrev pub result_of : Demand → List Operand → Operand → Operand
+result_of Beat operands a = won_by operands a
+result_of Share operands a = shared_by operands a
 
 -- What they have together through one of them that meets the demand to each.
-abbrev pub decision : Demand → List Operand → Option Operand
-decision demand operands =
-    option_map (outcome demand operands) (find (decides demand operands) operands)
+abbrev pub result_by : Demand → List Operand → Option Operand
+result_by demand operands =
+    option_map (result_of demand operands) (find (decides demand operands) operands)
 
 -- Its repertoire is less than the other one's.
 abbrev pub has_less : Operand → Operand → Bool

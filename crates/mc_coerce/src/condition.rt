@@ -4,6 +4,7 @@ ghost use Rattle.std.specs.Prelude.{◌↔◌, IsTrue};
 
 use crate::levels::IGNORABLE;
 use crate::operand::Operand;
+use mc_charset::{same_set, set_names_law};
 
 /// How many collations are built in; their numbers begin at 0.
 const BUILT_IN_COUNT: u32 = 9;
@@ -32,5 +33,6 @@ fn agrees(a: &Operand, list: &[Operand]) -> bool
 fn agree(a: &Operand, b: &Operand) -> bool
     ensures { IsTrue result ↔ AgreeOnSet a.now b.now }
 {
-    a.collation != b.collation || a.charset == b.charset
+    set_names_law();
+    a.collation != b.collation || same_set(a.charset, b.charset)
 }

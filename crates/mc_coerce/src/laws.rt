@@ -64,7 +64,8 @@ pub fn order_law()
 {}
 
 /// A mix is of two operands or more, NULLs aside: for a comparison exactly where none beats each,
-/// or one that does has level 1; for a text exactly where none beats each and none shares with each.
+/// or one that does has level 1; for a text exactly where none beats each and none shares with
+/// each.
 pub fn mix_law()
     ensures compare { (list : List Operand) → AreOperands list
         → ((aggregate list Compare ≡ Mix) ↔ ((1 < length (counted list))

@@ -9,12 +9,12 @@
 //! The levels and their order are those of the MySQL 8.0 manual, 10.8.4. The chain of repertoires,
 //! finer than those of 10.2.1, and the table for operands of different sets are this project's.
 //!
-//! Modules in reading order: `levels`, `operand`, `condition` (what operands keep to), `sets` (character sets
-//! beside each other), `pair` (two operands), `demand` (what decides for a list), `agreement` (the
-//! list), `laws`.
+//! Modules in reading order: `levels`, `operand`, `condition` (what operands keep to), `sets`
+//! (character sets beside each other), `pair` (two operands), `demand` (what decides for a list),
+//! `aggregates` (the list), `laws`.
 #![tactic(auto)]
 
-mod agreement;
+mod aggregates;
 mod condition;
 mod demand;
 mod laws;
@@ -29,7 +29,7 @@ mod sets;
 #[cfg(test)]
 mod tests;
 
-pub use agreement::{aggregate, takes_part};
+pub use aggregates::{aggregate, takes_part};
 pub use condition::are_operands;
 pub use laws::{mix_law, operands_law, order_law, pair_law, repertoire_law, result_law};
 pub use levels::{

@@ -8,6 +8,63 @@ pub(crate) struct Row {
     pub(crate) why: &'static str,
 }
 
+pub(crate) const SHORT: [Row; 9] = [
+    Row {
+        operands: &[],
+        compare: b"binary bin 6 ascii",
+        text: b"binary bin 6 ascii",
+        why: "no operand",
+    },
+    Row {
+        operands: &[b"latin1 bin 1 latin1"],
+        compare: b"latin1 bin 1 latin1",
+        text: b"latin1 bin 1 latin1",
+        why: "one operand of no collation",
+    },
+    Row {
+        operands: &[b"latin1 ci 2 latin1"],
+        compare: b"latin1 ci 2 latin1",
+        text: b"latin1 ci 2 latin1",
+        why: "one column",
+    },
+    Row {
+        operands: &[b"binary bin 6 ascii"],
+        compare: b"binary bin 6 ascii",
+        text: b"binary bin 6 ascii",
+        why: "one NULL",
+    },
+    Row {
+        operands: &[b"latin1 ci 2 latin1", b"latin1 cs 2 latin1"],
+        compare: b"mix",
+        text: b"latin1 bin 1 latin1",
+        why: "two columns",
+    },
+    Row {
+        operands: &[b"latin1 ci 2 latin1", b"utf8mb4 ci 4 ascii"],
+        compare: b"latin1 ci 2 latin1",
+        text: b"latin1 ci 2 latin1",
+        why: "a column and a literal of ASCII",
+    },
+    Row {
+        operands: &[b"latin1 ci 2 latin1", b"utf8mb4 ci 4 bmp"],
+        compare: b"mix",
+        text: b"mix",
+        why: "a column and a literal that its set lacks",
+    },
+    Row {
+        operands: &[b"latin1 ci 2 latin1", b"binary bin 4 bytes"],
+        compare: b"mix",
+        text: b"mix",
+        why: "a column and a byte above 7F",
+    },
+    Row {
+        operands: &[b"latin1 bin 1 latin1", b"utf8mb4 ci 4 ascii"],
+        compare: b"mix",
+        text: b"latin1 bin 1 latin1",
+        why: "two columns joined, and a literal",
+    },
+];
+
 pub(crate) const COLUMNS: [Row; 7] = [
     Row {
         operands: &[

@@ -1,7 +1,7 @@
 //! Printed by tools/coercibility_table.py, which works the answers out from the rules.
 
 /// Operands of one set: which one beats the other.
-pub(crate) const ONE_SET: [&'static [u8]; 47] = [
+pub(crate) const ONE_SET: [&'static [u8]; 48] = [
     b"binary bin 2 bytes | binary bin 2 ascii | both",
     b"binary bin 2 bytes | binary bin 3 bytes | first",
     b"binary bin 2 bytes | binary bin 2 bytes | both",
@@ -25,6 +25,7 @@ pub(crate) const ONE_SET: [&'static [u8]; 47] = [
     b"utf8mb3 bin 2 bmp | utf8mb3 ci 2 bmp | first",
     b"utf8mb3 bin 2 bmp | utf8mb3 ci 1 bmp | second",
     b"utf8mb3 ci 0 bmp | utf8mb3 bin 0 bmp | neither",
+    b"utf8mb4 bin 2 unicode | utf8mb4 0900_bin 2 unicode | neither",
     b"utf8mb4 ci 2 unicode | utf8mb4 ci 2 ascii | both",
     b"utf8mb4 ci 2 unicode | utf8mb4 ci 3 unicode | first",
     b"utf8mb4 ci 2 unicode | utf8mb4 cs 2 unicode | neither",

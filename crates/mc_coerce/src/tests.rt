@@ -1,4 +1,4 @@
-use crate::list_rows::{BYTES, COLUMNS, FOUR, Row, UNICODE};
+use crate::list_rows::{BYTES, COLUMNS, FOUR, Row, SHORT, UNICODE};
 use crate::pair_rows::{ASCII, BINARY, LATIN1, ONE_SET, UTF8, WIDE};
 use crate::{Agg, Operand, Purpose, aggregate, are_operands, beats};
 use mc_base::{List, NoMemory, hex_number, next_field};
@@ -16,18 +16,20 @@ fn operand(line: &[u8]) -> Option<(Operand, &[u8])> {
     let operand = Operand {
         charset,
         collation: collation(charset, kind)?,
-        bin: kind == b"bin".as_slice(),
+        bin: kind.ends_with(b"bin"),
         level: u8::try_from(hex_number(level)?).ok()?,
         repertoire: repertoire(class)?,
     };
     Some((operand, line))
 }
 
-/// The set's built-in collation, or one of two that a catalog may declare.
+/// The set's built-in collation, or one of two that a catalog may declare; of utf8mb4 another one
+/// is built in.
 fn collation(set: Charset, kind: &[u8]) -> Option<CollId> {
     let number = bin_of(set).0;
     match kind {
         b"bin" => Some(CollId(number)),
+        b"0900_bin" => Some(CollId(8)),
         b"ci" => Some(CollId(number.wrapping_add(9))),
         b"cs" => Some(CollId(number.wrapping_add(17))),
         _ => None,
@@ -137,7 +139,7 @@ fn is_answer(agg: Agg, want: &[u8]) -> bool {
 fn have(alloc: Global, row: &Row) -> Result<bool, NoMemory> {
     let list = operands(alloc, row.operands)?;
     Ok(
-        list.len() > 2
+        list.len() == row.operands.len()
             && are_operands(list.as_slice())
             && is_answer(aggregate(list.as_slice(), Purpose::Compare), row.compare)
             && is_answer(aggregate(list.as_slice(), Purpose::Text), row.text),
@@ -152,6 +154,12 @@ fn wrong_list(alloc: Global, rows: &[Row]) -> &'static str {
         }
     }
     ""
+}
+
+#[test]
+fn lists_of_up_to_two(rt: HostRuntime) {
+    let wrong = wrong_list(rt.alloc(), &SHORT);
+    assert!(rt; wrong.is_empty(), "{wrong}");
 }
 
 #[test]

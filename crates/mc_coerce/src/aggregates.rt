@@ -1,6 +1,6 @@
-ghost use Rattle.mc_coerce.specs.Aggregate.{agreed, aggregate, class_in_set, counted, greatest};
+ghost use Rattle.mc_coerce.specs.Aggregate.{result_for, aggregate, class_in_set, counted, greatest};
 ghost use Rattle.mc_coerce.specs.Aggregate.{is_refused, later, of_bin, takes_part};
-ghost use Rattle.mc_coerce.specs.Demand.{decides, decision, outcome};
+ghost use Rattle.mc_coerce.specs.Demand.{decides, result_by, result_of};
 ghost use Rattle.mc_coerce.specs.Operand.{AreOperands};
 ghost use Rattle.std.specs.Prelude.{◌≡◌, length};
 
@@ -22,18 +22,18 @@ pub fn aggregate(list: &[Operand], purpose: Purpose) -> Agg
     if count(list) == 0 {
         return Agg::Uses(of_bin(Charset::Binary, IGNORABLE, Repertoire::Ascii));
     }
-    match agreed(list, purpose) {
+    match result_for(list, purpose) {
         Some(operand) => Agg::Uses(operand),
         None => Agg::Mix,
     }
 }
 
 /// What those that take part have together, if anything.
-fn agreed(list: &[Operand], purpose: Purpose) -> Option<Operand>
+fn result_for(list: &[Operand], purpose: Purpose) -> Option<Operand>
     requires { AreOperands list.now }
-    ensures { result ≡ agreed purpose (counted list.now) }
+    ensures { result ≡ result_for purpose (counted list.now) }
 {
-    match (purpose, decision(list, Demand::Beat)) {
+    match (purpose, result_by(list, Demand::Beat)) {
         (Purpose::Compare, Some(winner)) => {
             if is_refused(list, &winner) {
                 None
@@ -43,7 +43,7 @@ fn agreed(list: &[Operand], purpose: Purpose) -> Option<Operand>
         }
         (Purpose::Compare, None) => None,
         (Purpose::Text, Some(winner)) => Some(winner),
-        (Purpose::Text, None) => decision(list, Demand::Share),
+        (Purpose::Text, None) => result_by(list, Demand::Share),
     }
 }
 
@@ -63,9 +63,9 @@ fn count(list: &[Operand]) -> usize
 
 /// What they have together through one of them that meets the demand to each: the candidate that
 /// one pass leaves, if it does.
-fn decision(list: &[Operand], demand: Demand) -> Option<Operand>
+fn result_by(list: &[Operand], demand: Demand) -> Option<Operand>
     requires { AreOperands list.now }
-    ensures { result ≡ decision demand (counted list.now) }
+    ensures { result ≡ result_by demand (counted list.now) }
 {
     let mut candidate = None;
     for operand in list {
@@ -75,7 +75,7 @@ fn decision(list: &[Operand], demand: Demand) -> Option<Operand>
     }
     let decider = candidate?;
     if decides(list, demand, &decider) {
-        Some(outcome(list, demand, &decider))
+        Some(result_of(list, demand, &decider))
     } else {
         None
     }
@@ -94,8 +94,8 @@ fn decides(list: &[Operand], demand: Demand, a: &Operand) -> bool
 }
 
 /// What they have together where this one of them decides.
-fn outcome(list: &[Operand], demand: Demand, a: &Operand) -> Operand
-    ensures { result ≡ outcome demand (counted list.now) a.now }
+fn result_of(list: &[Operand], demand: Demand, a: &Operand) -> Operand
+    ensures { result ≡ result_of demand (counted list.now) a.now }
 {
     let repertoire = class_in_set(a.charset, greatest(list));
     match demand {

@@ -1,6 +1,6 @@
 use Rattle.std.proofs.Common.{◌≡◌, drop}
 use Rattle.mc_coerce.specs.Aggregate.{counted, greatest, later}
-use Rattle.mc_coerce.proofs.agreement.greatest.Given as goal
+use Rattle.mc_coerce.proofs.aggregates.greatest.Given as goal
 
 abbrev pub invariant-loop-operand : goal.invariant-loop-operand
 invariant-loop-operand l =

@@ -1,8 +1,8 @@
 use Rattle.std.proofs.Common.{sym, ap, ◌∙◌}
 use Rattle.mc_coerce.specs.declared.operand.Agg.TheVariants.{Uses}
 use Rattle.mc_coerce.specs.Aggregate.{uses_or_mix}
-use Rattle.mc_coerce.proofs.Aggregates.{aggregate-none, aggregate-some}
-use Rattle.mc_coerce.proofs.agreement.aggregate.Goals as goal
+use Rattle.mc_coerce.proofs.Origins.{aggregate-none, aggregate-some}
+use Rattle.mc_coerce.proofs.aggregates.aggregate.Goals as goal
 
 pub returns-then-count-eq0 : goal.returns-then-count-eq0
 returns-then-count-eq0 c =

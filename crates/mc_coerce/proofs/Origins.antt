@@ -17,9 +17,9 @@ use Rattle.mc_coerce.specs.declared.demand.Demand.{Demand}
 use Rattle.mc_coerce.specs.declared.demand.Demand.TheVariants.{Beat, Share}
 use Rattle.mc_coerce.specs.Levels.{ignorable}
 use Rattle.mc_coerce.specs.Operand.{IsOperand, AgreeOnSet, AreOperands}
-use Rattle.mc_coerce.specs.Demand.{decides, outcome, decision}
+use Rattle.mc_coerce.specs.Demand.{decides, result_of, result_by}
 use Rattle.mc_coerce.specs.Aggregate.{takes_part, counted, of_bin, is_refused}
-use Rattle.mc_coerce.specs.Aggregate.{agreed, uses_or_mix, aggregate_counted, aggregate}
+use Rattle.mc_coerce.specs.Aggregate.{result_for, uses_or_mix, aggregate_counted, aggregate}
 use Rattle.mc_coerce.proofs.Election.{Candidate, elect_from, elect_from-end, elected}
 use Rattle.mc_coerce.proofs.Members.{Found, find-any, find-none}
 
@@ -55,7 +55,7 @@ none_counted [] purpose h = refl
 none_counted (x ∷ xs) purpose h = absurd (omega arith)
 
 some_counted : (operands : List Operand) (purpose : Purpose) → length operands ≢ 0
-    → aggregate_counted operands purpose ≡ uses_or_mix (agreed purpose operands)
+    → aggregate_counted operands purpose ≡ uses_or_mix (result_for purpose operands)
 some_counted [] purpose h = absurd (h refl)
 some_counted (x ∷ xs) purpose h = refl
 
@@ -65,17 +65,17 @@ unfolding aggregate
 aggregate-none list purpose h = none_counted (counted list) purpose h
 
 pub aggregate-some : (list : List Operand) (purpose : Purpose) → length (counted list) ≢ 0
-    → aggregate list purpose ≡ uses_or_mix (agreed purpose (counted list))
+    → aggregate list purpose ≡ uses_or_mix (result_for purpose (counted list))
 unfolding aggregate
 aggregate-some list purpose h = some_counted (counted list) purpose h
 
 -- Where a result comes from
 
--- The result is the outcome of an operand that decides.
+-- The result is that of an operand that decides.
 pub record ComesFrom (demand : Demand) (operands : List Operand) (result a : Operand) : Type 0 where
   pub within : Contains operands a
   pub decides_all : decides demand operands a ≡ true
-  pub is : result ≡ outcome demand operands a
+  pub is : result ≡ result_of demand operands a
 
 abbrev pub HasDecider : List Operand → Operand → Type 0
 HasDecider operands result =
@@ -87,9 +87,9 @@ some_is a b h = cc
 none_is_some : (a : Operand) → None ≡ Some a → ⊥
 none_is_some a h = cc
 
-decision-from : (demand : Demand) (operands : List Operand) (result : Operand)
-    → decision demand operands ≡ Some result → HasDecider operands result
-decision-from demand operands result h =
+result_by-from : (demand : Demand) (operands : List Operand) (result : Operand)
+    → result_by demand operands ≡ Some result → HasDecider operands result
+result_by-from demand operands result h =
     elim (cases_Bool (list_any (decides demand operands) operands)) [
       | inl t ↦
           let r : (y : Operand) × Found (decides demand operands) operands y =
@@ -99,12 +99,12 @@ decision-from demand operands result h =
             record {
               within = r.1.within;
               decides_all = r.1.passes;
-              is = some_is (outcome demand operands r.0) result
-                  (sym (ap (option_map (outcome demand operands)) r.1.found) ∙ h);
+              is = some_is (result_of demand operands r.0) result
+                  (sym (ap (option_map (result_of demand operands)) r.1.found) ∙ h);
             },
           )
       | inr f ↦ absurd (none_is_some result
-          (sym (ap (option_map (outcome demand operands))
+          (sym (ap (option_map (result_of demand operands))
           (find-none (decides demand operands) operands f)) ∙ h))
     ]
 
@@ -123,15 +123,15 @@ either : (o p : Option Operand) (result : Operand) → option_or o p ≡ Some re
 either None p result h = inr h
 either (Some x) p result h = inl h
 
-agreed-from : (purpose : Purpose) (operands : List Operand) (result : Operand)
-    → agreed purpose operands ≡ Some result → HasDecider operands result
-agreed-from Compare operands result h =
-    decision-from Beat operands result
-    (kept (is_refused operands) (decision Beat operands) result h)
-agreed-from Text operands result h =
-    elim (either (decision Beat operands) (decision Share operands) result h) [
-      | inl k ↦ decision-from Beat operands result k
-      | inr k ↦ decision-from Share operands result k
+result_for-from : (purpose : Purpose) (operands : List Operand) (result : Operand)
+    → result_for purpose operands ≡ Some result → HasDecider operands result
+result_for-from Compare operands result h =
+    result_by-from Beat operands result
+    (kept (is_refused operands) (result_by Beat operands) result h)
+result_for-from Text operands result h =
+    elim (either (result_by Beat operands) (result_by Share operands) result h) [
+      | inl k ↦ result_by-from Beat operands result k
+      | inr k ↦ result_by-from Share operands result k
     ]
 
 used : (o : Option Operand) (result : Operand) → uses_or_mix o ≡ Uses result → o ≡ Some result
@@ -143,7 +143,7 @@ counted-from : (operands : List Operand) (purpose : Purpose) (result : Operand)
     → ((operands ≡ []) × (result ≡ of_bin Binary ignorable Ascii)) ⊎ HasDecider operands result
 counted-from [] purpose result h = inl (refl, cc)
 counted-from (x ∷ xs) purpose result h =
-    inr (agreed-from purpose (x ∷ xs) result (used (agreed purpose (x ∷ xs)) result h))
+    inr (result_for-from purpose (x ∷ xs) result (used (result_for purpose (x ∷ xs)) result h))
 
 pub aggregate-from : (list : List Operand) (purpose : Purpose) (result : Operand)
     → aggregate list purpose ≡ Uses result
