@@ -1,7 +1,6 @@
 ghost use Rattle.std.specs.Option.{option_copied};
 ghost use Rattle.std.specs.Prelude.{◌≡◌, ◌≤◌, IfSome, Some};
 ghost use Rattle.mycoll.specs.Answering.{AnswersWritten, Written, StopCause};
-ghost use Rattle.mycoll.specs.Answers.{OneAnswer};
 ghost use Rattle.mycoll.specs.Opened.{IsSound, accepted_of};
 ghost use Rattle.mycoll.specs.Outcome.{refused_line};
 ghost use Rattle.mycoll.specs.Run.{
@@ -159,11 +158,10 @@ pub fn run<F: Files, S: Sink, W, L>(
     work: &mut Steps<W>,
     steps: &mut Steps<L>,
 ) -> Status
-    // The bytes written are the task's: for accepted files the statements' answers, in order.
+    // The bytes written are the task's: for accepted files the statements' answers, in order, of
+    // which there is one list (`answers_law`).
     ensures told { IfSome (task (F.contents files.old) words.now) (λ asked.
         HasWritten asked result (S.written out.old) (S.written out.new)) }
-    // A statement has at most one answer, so these are the answers.
-    ensures once { OneAnswer }
     // Where neither count rose, the task was done, unless memory ran out.
     ensures complete { IfSome (task (F.contents files.old) words.now) (λ asked.
         IsComplete asked result (F.faults files.old) (F.faults files.new)
