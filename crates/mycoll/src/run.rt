@@ -1,5 +1,5 @@
 ghost use Rattle.std.specs.Option.{option_copied};
-ghost use Rattle.std.specs.Prelude.{◌≡◌, ◌≤◌, IfSome, Some};
+ghost use Rattle.std.specs.Prelude.{◌≡◌, ◌≤◌, IfSome};
 ghost use Rattle.mycoll.specs.Answering.{AnswersWritten, Written, StopCause};
 ghost use Rattle.mycoll.specs.Opened.{IsSound, accepted_of};
 ghost use Rattle.mycoll.specs.Outcome.{refused_line};
@@ -16,7 +16,8 @@ ghost use Rattle.mycoll.specs.Run.{
   WriteCause,
   FitsWords,
 };
-ghost use Rattle.mycoll.specs.Words.{named_files};
+ghost use Rattle.mycoll.specs.Words.{words_form};
+ghost use Rattle.mycoll.specs.Words.WordsForm.{file_words};
 
 use crate::answering::answer_script;
 use crate::opening::{Opened, open_files};
@@ -24,7 +25,7 @@ use crate::output::{Stopped, write_bytes};
 use crate::print::refused_text;
 use crate::session::Session;
 use crate::status::Status;
-use crate::words::{NamedFiles, named_files};
+use crate::words::{FileNames, named_files};
 use mc_base::{FileFault, FileRefusal, Files, NoMemory, Sink, Steps, Text};
 use std::alloc::Global;
 
@@ -92,7 +93,7 @@ fn answer_opened<S: Sink>(alloc: Global, opened: &Opened, out: &mut S) -> Result
 /// Answers the script of these files.
 fn run_files<F: Files, S: Sink>(
     alloc: Global,
-    named: NamedFiles<'_>,
+    named: FileNames<'_>,
     files: &mut F,
     out: &mut S,
 ) -> Status
@@ -107,7 +108,7 @@ fn run_files<F: Files, S: Sink>(
         (S.written out.old) (S.written out.new) }
     ensures write { WriteCause result (S.faults out.old) (S.faults out.new) }
     ensures form { FitsWords
-        (Some (record {
+        (file_words (record {
           catalog = option_copied named.entry.catalog;
           script = named.entry.script.now;
         })) result }
@@ -131,7 +132,7 @@ fn run_words<F: Files, S: Sink>(alloc: Global, words: &[Text], files: &mut F, ou
     ensures read { ReadCause result (F.faults files.old) (F.faults files.new)
         (S.written out.old) (S.written out.new) }
     ensures write { WriteCause result (S.faults out.old) (S.faults out.new) }
-    ensures form { FitsWords (named_files words.now) result }
+    ensures form { FitsWords (words_form words.now) result }
 {
     match named_files(words) {
         Some(named) => run_files(alloc, named, files, out),
@@ -169,7 +170,7 @@ pub fn run<F: Files, S: Sink, W, L>(
     ensures read { ReadCause result (F.faults files.old) (F.faults files.new)
         (S.written out.old) (S.written out.new) }
     ensures write { WriteCause result (S.faults out.old) (S.faults out.new) }
-    ensures form { FitsWords (named_files words.now) result }
+    ensures form { FitsWords (words_form words.now) result }
     ensures kept { F.contents files.new ≡ F.contents files.old }
     ensures steps { steps.new ≡ steps.old }
     ensures work { work.new ≡ work.old }
