@@ -1,21 +1,24 @@
 -- What a catalog's text gives, by what its reader says.
-use Rattle.std.proofs.Common.{◌≡◌, ◌≢◌, ◌↔◌, ℕ, Bool, true, false, ◌&&◌, List, [], ◌∷◌, Result, Ok, Err, drop, refl, sym, ap, ◌∙◌}
-use Rattle.std.specs.Prelude.{IsTrue, All}
+use Rattle.std.proofs.Common.{arith, ◌≡◌, ◌≢◌, ◌↔◌, ℕ, Bool, true, false, ◌&&◌, List, [], ◌∷◌, Option, Some, None, Result, Ok, Err, drop, refl, sym, ap, ◌∙◌}
+use Rattle.std.specs.Prelude.{IsTrue, All, if◌then◌else◌, codes}
 use Rattle.std.specs.Result.{result_map_both}
-use Rattle.std.proofs.lemmas.List.Sums.{list_all-from_AllPass}
-use Rattle.mc_base.specs.FileOutcome.{HasOutcome, IsRefusedAs}
+use Rattle.std.proofs.lemmas.List.Sums.{list_all-from_AllPass, AllPass-from_list_all}
+use Rattle.std.proofs.lemmas.Result.{IfOk-at_ok}
+use Rattle.mc_base.specs.FileOutcome.{HasOutcome, IsRefusedAs, file_outcome, file_refusal}
 use Rattle.mc_base.specs.Results.{result_and_then}
 use Rattle.mc_base.specs.declared.file.FileFault.{FileFault}
 use Rattle.mc_base.specs.declared.file.FileFault.TheVariants.{Refused, Fault, NoMemory as OutOfMemory}
 use Rattle.mc_base.specs.declared.refusal.FileRefusal.{FileRefusal}
 use Rattle.mc_book.specs.BookOutcome.{IsBuilt, has_table}
+use Rattle.mc_catalog.specs.BuiltIn.{plain}
+use Rattle.mc_catalog.specs.Limits.{built_in_count}
 use Rattle.mc_catalog.specs.Outcome.{catalog_outcome}
 use Rattle.mc_catalog.specs.declared.catalog.Catalog.{Catalog}
 use Rattle.mc_catalog.specs.declared.catalog.CollDecl.{CollDecl}
 use Rattle.mc_catalog.specs.declared.catalog.TableDecl.{TableDecl}
 use Rattle.mc_catalog.specs.declared.fault.CatalogFault.{CatalogFault}
 use Rattle.mc_catalog.specs.declared.fault.CatalogFaultKind.TheVariants.{NoMemory}
-use Rattle.mycoll.specs.Outcome.{has_no_table, is_built, built_outcome, catalog_refusal, built_catalog}
+use Rattle.mycoll.specs.Outcome.{has_no_table, is_built, built_outcome, catalog_refusal, built_catalog, named_catalog}
 
 no_tables : (tables : List TableDecl) (empty : Bool) → (IsTrue empty ↔ (tables ≡ [])) → empty ≡ has_no_table tables
 no_tables [] empty h = h.1 refl
@@ -52,3 +55,41 @@ refused_told name text fault (Refused refusal) h r m =
     ap (built_of name) (h (λ e. refusal_apart refusal (m e))) ∙ ap (λ x. Err x) r
 refused_told name text fault Fault h r m = absurd r
 refused_told name text fault OutOfMemory h r m = tt
+
+-- A catalog declares built kinds alone.
+abbrev AllBuilt : Catalog → Type 0
+AllBuilt catalog = All IsBuilt (drop built_in_count catalog.collations)
+
+left_true : (a b : Bool) → (a && b) ≡ true → a ≡ true
+left_true true b e = refl
+left_true false b e = e
+
+built_from : (name : List ℕ) (read catalog : Catalog) → built_outcome name read ≡ Ok catalog → AllBuilt catalog
+built_from name read catalog e = of (is_built read) refl e
+  where
+    of : (b : Bool) → is_built read ≡ b → (if b then Ok read else Err (file_refusal name (codes "NotBuilt") 0)) ≡ Ok catalog
+        → AllBuilt catalog
+    of true b e = IfOk-at_ok AllBuilt e
+        (AllPass-from_list_all (λ (declared : CollDecl). has_table declared.kind) (drop built_in_count read.collations) (left_true _ _ b))
+    of false b e = cc
+
+built_read : (name : List ℕ) (read : Result Catalog CatalogFault) (catalog : Catalog) → built_of name read ≡ Ok catalog
+    → AllBuilt catalog
+built_read name (Ok read) catalog e = built_from name read catalog e
+built_read name (Err fault) catalog e = cc
+
+built_file : (name : List ℕ) (read : Result (List ℕ) FileRefusal) (catalog : Catalog)
+    → result_and_then (built_catalog name) read ≡ Ok catalog → AllBuilt catalog
+unfolding built_catalog
+built_file name (Ok text) catalog e = built_read name (catalog_outcome text) catalog e
+built_file name (Err refusal) catalog e = cc
+
+none_declared : AllBuilt plain
+none_declared k declared l = absurd (omega arith)
+
+-- What a run accepts as its catalog declares built kinds alone.
+pub built_only : (files : List ℕ → Option (List ℕ)) (name : Option (List ℕ)) (catalog : Catalog)
+    → named_catalog files name ≡ Ok catalog → AllBuilt catalog
+unfolding named_catalog
+built_only files None catalog e = IfOk-at_ok AllBuilt e none_declared
+built_only files (Some name) catalog e = built_file name (file_outcome files name) catalog e

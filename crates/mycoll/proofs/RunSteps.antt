@@ -11,7 +11,8 @@ use Rattle.mycoll.specs.Answering.{AnswersWritten, Written}
 use Rattle.mycoll.specs.Outcome.{Accepted, files_outcome, refused_line}
 use Rattle.mycoll.specs.Run.{Task, accepted_state, accepted_world, task, files_task, HasWritten, LineWritten, ScriptWritten, IsComplete, ReadCause, WriteCause, answered_status, line_status}
 use Rattle.mycoll.specs.Run.Task.{one_line, script_task}
-use Rattle.mycoll.specs.Words.{FileNames, named_files, usage_line}
+use Rattle.mycoll.specs.Words.{FileNames, WordsForm, words_form, usage_line}
+use Rattle.mycoll.specs.Words.WordsForm.{file_words, no_form}
 use Rattle.mycoll.specs.World.{World, State}
 use Rattle.mycoll.proofs.AnsweringSteps.{none_so_far, stopped_before}
 
@@ -99,20 +100,20 @@ lacking_run None named before after e = tt
 lacking_run (Some files) named before after e =
     subst (λ now. HasWritten (files_task files named) NoMemory before now) (sym e) (lacking_written (files_task files named) before)
 
--- The task of words by the files that they name.
-abbrev words_task : Told → Option FileNames → Option Task
-words_task told o = elim o as (λ _. Option Task) [
-  | None ↦ Some (one_line usage_line Usage)
-  | Some named ↦ option_map (λ (files : List ℕ → Option (List ℕ)). files_task files named) told
+-- The task of words by their form.
+abbrev words_task : Told → WordsForm → Option Task
+words_task told form = elim form as (λ _. Option Task) [
+  | file_words named ↦ option_map (λ (files : List ℕ → Option (List ℕ)). files_task files named) told
+  | no_form ↦ Some (one_line usage_line Usage)
 ]
 
 -- Words of no form, whose usage line was written so.
 pub usage_run : (told : Told) (words : List (List ℕ)) (r : Result (Unit {0}) Stopped) (status : Status) (before after : Option (List ℕ))
-    → named_files words ≡ None → status ≡ line_status Usage r → Written usage_line r before after
+    → words_form words ≡ no_form → status ≡ line_status Usage r → Written usage_line r before after
     → IfSome (task told words) (λ t. HasWritten t status before after)
 unfolding task
 usage_run told words r status before after h e w =
-    subst (λ (o : Option FileNames). IfSome (words_task told o) (λ t. HasWritten t status before after)) (sym h)
+    subst (λ (form : WordsForm). IfSome (words_task told form) (λ t. HasWritten t status before after)) (sym h)
     (subst (λ (s : Status). LineWritten usage_line Usage s before after) (sym e) (usage_written usage_line r before after w))
 
 mapped : (told : Told) (named : FileNames) (status : Status) (before after : Option (List ℕ))
@@ -123,12 +124,12 @@ mapped (Some files) named status before after h = h
 
 -- Words of a form, whose files were answered so.
 pub named_run : (told : Told) (words : List (List ℕ)) (named : FileNames) (status : Status) (before after : Option (List ℕ))
-    → named_files words ≡ Some named
+    → words_form words ≡ file_words named
     → IfSome told (λ files. HasWritten (files_task files named) status before after)
     → IfSome (task told words) (λ t. HasWritten t status before after)
 unfolding task
 named_run told words named status before after h w =
-    subst (λ (o : Option FileNames). IfSome (words_task told o) (λ t. HasWritten t status before after)) (sym h)
+    subst (λ (form : WordsForm). IfSome (words_task told form) (λ t. HasWritten t status before after)) (sym h)
     (mapped told named status before after w)
 
 -- A run that wrote so, and failed only where a device did, has done its task where none did.

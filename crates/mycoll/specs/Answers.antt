@@ -59,7 +59,7 @@ IsReadAndSaid w before script statement said after =
     (query : Query) × Reads script statement query × IsSaid w before script query said after
 
 -- A statement is answered so in a state, and leaves this one: its syntax is refused, else what it
--- asks is answered.
+-- asks is answered. An answer is what is said; `Answer` is the table among what may be said.
 abbrev pub IsAnswer : World → State → List ℕ → Span → Said → State → Type 0
 IsAnswer w before script statement said after =
     IsRefusedRead before script statement said after
@@ -84,14 +84,6 @@ pub record AreFirst (w : World) (s : State) (script : List ℕ) (said : List Sai
 pub record AreAll (w : World) (s : State) (script : List ℕ) (said : List Said) : Type 0 where
   pub behind : State
   pub answered : Answered w s script (statements script 0) said behind
-
--- A statement has at most one answer, and leaves at most one state.
-abbrev pub OneAnswer : Type 0
-OneAnswer = (w : World) (before : State) (script : List ℕ) (statement : Span)
-    (said other : Said) (after behind : State)
-    → IsAnswer w before script statement said after
-    → IsAnswer w before script statement other behind
-    → (said ≡ other) × (after ≡ behind)
 
 -- Whether an answer is a refusal.
 abbrev pub is_refusal : Said → Bool

@@ -1,6 +1,6 @@
 -- What a run of some words is to do, what it has written when it ends, and why it may end early.
 use Rattle.std.specs.Prelude.{◌≡◌, ◌⊎◌, ℕ, Bool, true, false, List, Option, Some, None, Result, Ok}
-use Rattle.std.specs.Prelude.{Err, IsSome, option_map, take, if◌then◌else◌, ⊤}
+use Rattle.std.specs.Prelude.{Err, option_map, take, if◌then◌else◌, ⊤}
 use Rattle.mc_base.specs.Faults.{Rose}
 use Rattle.mc_base.specs.Sink.{appended}
 use Rattle.mc_book.specs.Meanings.{meaning_at}
@@ -11,7 +11,8 @@ use Rattle.mycoll.specs.declared.output.Stopped.{Stopped}
 use Rattle.mycoll.specs.declared.output.Stopped.TheVariants.{Fault, NoMemory as OutOfMemory}
 use Rattle.mycoll.specs.Answering.{AllWritten, FirstWritten, PartWritten}
 use Rattle.mycoll.specs.Outcome.{Accepted, files_outcome, refused_line}
-use Rattle.mycoll.specs.Words.{FileNames, named_files, usage_line}
+use Rattle.mycoll.specs.Words.{FileNames, WordsForm, IsOfFiles, words_form, usage_line}
+use Rattle.mycoll.specs.Words.WordsForm.{file_words, no_form}
 use Rattle.mycoll.specs.World.{World, State, world_of}
 
 -- What a run is to do: to write one line and end so, or to answer a script.
@@ -36,9 +37,9 @@ files_task files named = elim (files_outcome files named) [
 
 -- What is to be done for some words, over what is told of the files; words of no form need none.
 unfoldable pub task : Option (List ℕ → Option (List ℕ)) → List (List ℕ) → Option Task
-task told words = elim (named_files words) [
-  | None ↦ Some (one_line usage_line Usage)
-  | Some named ↦ option_map (λ files. files_task files named) told
+task told words = elim (words_form words) [
+  | file_words named ↦ option_map (λ files. files_task files named) told
+  | no_form ↦ Some (one_line usage_line Usage)
 ]
 
 -- The line was written, and its status is this one.
@@ -107,15 +108,15 @@ WriteCause FilesRefused faults faults' = ⊤
 WriteCause ReadFault faults faults' = ⊤
 WriteCause NoMemory faults faults' = ⊤
 
--- The usage line is for words of no form alone, and files are opened for words of a form alone.
-abbrev pub FitsWords : Option FileNames → Status → Type 0
-FitsWords named Usage = named ≡ None
-FitsWords named Done = IsSome named
-FitsWords named SomeRefused = IsSome named
-FitsWords named FilesRefused = IsSome named
-FitsWords named ReadFault = IsSome named
-FitsWords named WriteFault = ⊤
-FitsWords named NoMemory = ⊤
+-- The usage line is for words of no form alone, and files are opened for words that name some.
+abbrev pub FitsWords : WordsForm → Status → Type 0
+FitsWords form Usage = form ≡ no_form
+FitsWords form Done = IsOfFiles form
+FitsWords form SomeRefused = IsOfFiles form
+FitsWords form FilesRefused = IsOfFiles form
+FitsWords form ReadFault = IsOfFiles form
+FitsWords form WriteFault = ⊤
+FitsWords form NoMemory = ⊤
 
 -- How a run ends that answered a script so.
 abbrev pub answered_status : Result Bool Stopped → Status

@@ -2,7 +2,8 @@
 //!
 //! `run` carries the theorem of the program: the bytes written are the answers to the script's
 //! statements, in order. An answer is a relation between a statement, the world that it is answered
-//! by (the catalog, and what its collations mean), and the states before and behind it.
+//! by (the catalog, and what its collations mean), and the states before and behind it; `laws` says
+//! that a script has one list of them.
 //!
 //! Its definitions stand in `specs/`: read `Words`, `Outcome`, `Literals`, `Queries`, `Values`,
 //! `World`, `Forms`, `Print`, `Answers`, `Answering` and `Run` in that order. In `src/` the files go
@@ -15,6 +16,7 @@ mod catalog_file;
 #[cfg(test)]
 mod catalog_tests;
 mod forms;
+mod laws;
 mod literal;
 mod marks;
 mod messages;

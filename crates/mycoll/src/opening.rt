@@ -7,7 +7,7 @@ ghost use Rattle.mycoll.specs.Outcome.{with_book, with_script, files_outcome};
 
 use crate::catalog_file::open_catalog;
 use crate::script::open_script;
-use crate::words::NamedFiles;
+use crate::words::FileNames;
 use mc_base::{FileFault, Files, Text};
 use mc_book::{AnyBook, build_book};
 use mc_catalog::Catalog;
@@ -77,7 +77,7 @@ fn open_rest<F: Files>(
 pub fn open_files<F: Files>(
     alloc: Global,
     files: &mut F,
-    named: NamedFiles<'_>,
+    named: FileNames<'_>,
 ) -> Result<Opened, FileFault>
     ensures kept { F.contents files.new ≡ F.contents files.old }
     ensures later { F.faults files.old ≤ F.faults files.new }

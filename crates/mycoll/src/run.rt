@@ -1,7 +1,6 @@
 ghost use Rattle.std.specs.Option.{option_copied};
-ghost use Rattle.std.specs.Prelude.{◌≡◌, ◌≤◌, IfSome, Some};
+ghost use Rattle.std.specs.Prelude.{◌≡◌, ◌≤◌, IfSome};
 ghost use Rattle.mycoll.specs.Answering.{AnswersWritten, Written, StopCause};
-ghost use Rattle.mycoll.specs.Answers.{OneAnswer};
 ghost use Rattle.mycoll.specs.Opened.{IsSound, accepted_of};
 ghost use Rattle.mycoll.specs.Outcome.{refused_line};
 ghost use Rattle.mycoll.specs.Run.{
@@ -17,7 +16,8 @@ ghost use Rattle.mycoll.specs.Run.{
   WriteCause,
   FitsWords,
 };
-ghost use Rattle.mycoll.specs.Words.{named_files};
+ghost use Rattle.mycoll.specs.Words.{words_form};
+ghost use Rattle.mycoll.specs.Words.WordsForm.{file_words};
 
 use crate::answering::answer_script;
 use crate::opening::{Opened, open_files};
@@ -25,7 +25,7 @@ use crate::output::{Stopped, write_bytes};
 use crate::print::refused_text;
 use crate::session::Session;
 use crate::status::Status;
-use crate::words::{NamedFiles, named_files};
+use crate::words::{FileNames, named_files};
 use mc_base::{FileFault, FileRefusal, Files, NoMemory, Sink, Steps, Text};
 use std::alloc::Global;
 
@@ -93,7 +93,7 @@ fn answer_opened<S: Sink>(alloc: Global, opened: &Opened, out: &mut S) -> Result
 /// Answers the script of these files.
 fn run_files<F: Files, S: Sink>(
     alloc: Global,
-    named: NamedFiles<'_>,
+    named: FileNames<'_>,
     files: &mut F,
     out: &mut S,
 ) -> Status
@@ -108,7 +108,7 @@ fn run_files<F: Files, S: Sink>(
         (S.written out.old) (S.written out.new) }
     ensures write { WriteCause result (S.faults out.old) (S.faults out.new) }
     ensures form { FitsWords
-        (Some (record {
+        (file_words (record {
           catalog = option_copied named.entry.catalog;
           script = named.entry.script.now;
         })) result }
@@ -132,7 +132,7 @@ fn run_words<F: Files, S: Sink>(alloc: Global, words: &[Text], files: &mut F, ou
     ensures read { ReadCause result (F.faults files.old) (F.faults files.new)
         (S.written out.old) (S.written out.new) }
     ensures write { WriteCause result (S.faults out.old) (S.faults out.new) }
-    ensures form { FitsWords (named_files words.now) result }
+    ensures form { FitsWords (words_form words.now) result }
 {
     match named_files(words) {
         Some(named) => run_files(alloc, named, files, out),
@@ -159,11 +159,10 @@ pub fn run<F: Files, S: Sink, W, L>(
     work: &mut Steps<W>,
     steps: &mut Steps<L>,
 ) -> Status
-    // The bytes written are the task's: for accepted files the statements' answers, in order.
+    // The bytes written are the task's: for accepted files the statements' answers, in order, of
+    // which there is one list (`answers_law`).
     ensures told { IfSome (task (F.contents files.old) words.now) (λ asked.
         HasWritten asked result (S.written out.old) (S.written out.new)) }
-    // A statement has at most one answer, so these are the answers.
-    ensures once { OneAnswer }
     // Where neither count rose, the task was done, unless memory ran out.
     ensures complete { IfSome (task (F.contents files.old) words.now) (λ asked.
         IsComplete asked result (F.faults files.old) (F.faults files.new)
@@ -171,7 +170,7 @@ pub fn run<F: Files, S: Sink, W, L>(
     ensures read { ReadCause result (F.faults files.old) (F.faults files.new)
         (S.written out.old) (S.written out.new) }
     ensures write { WriteCause result (S.faults out.old) (S.faults out.new) }
-    ensures form { FitsWords (named_files words.now) result }
+    ensures form { FitsWords (words_form words.now) result }
     ensures kept { F.contents files.new ≡ F.contents files.old }
     ensures steps { steps.new ≡ steps.old }
     ensures work { work.new ≡ work.old }

@@ -189,3 +189,30 @@ fn scripts_are_answered_as_worked_out(rt: HostRuntime) {
         );
     }
 }
+
+/// Whether HEX of so many strings side by side, from byte 2 of a script on, has no reading.
+fn has_no_reading(alloc: Global, strings: usize) -> Result<bool, NoMemory> {
+    let words = words_of(alloc, &[b"s.sql"])?;
+    let mut script = Text::from_slice(alloc, b"; SELECT HEX(")?;
+    for _ in 0..strings {
+        script.extend_from_slice(b"'a' ")?;
+    }
+    script.extend_from_slice(b")")?;
+    let mut files = one_file(alloc, b"s.sql", script, &[])?;
+    let mut out = MemSink::new(alloc, List::new(alloc));
+    let status = status_of(alloc, words.as_slice(), &mut files, &mut out);
+    let want = b"ERROR 9001: no reading at byte 2\n".as_slice();
+    Ok(status == Status::SomeRefused && out.written().as_slice() == want)
+}
+
+#[test]
+fn a_statement_of_more_than_2048_tokens_is_refused(rt: HostRuntime) {
+    assert!(rt;
+        !has_no_reading(rt.alloc(), 2044).unwrap_or(true),
+        "2048 tokens"
+    );
+    assert!(rt;
+        has_no_reading(rt.alloc(), 2045).unwrap_or(false),
+        "2049 tokens"
+    );
+}

@@ -11,8 +11,8 @@ pub enum Status {
     FilesRefused,
     /// Reading a file failed; nothing was written.
     ReadFault,
-    /// Writing failed; some first bytes of the answers were written.
+    /// Writing failed; some first bytes of the answers, or of the one line, were written.
     WriteFault,
-    /// Memory ran out; the whole answers of some first statements were written.
+    /// Memory ran out; the whole answers of some first statements were written, or nothing of a line.
     NoMemory,
 }

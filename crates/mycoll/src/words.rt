@@ -1,7 +1,8 @@
-ghost use Rattle.std.specs.Prelude.{◌≡◌, None, Some, MatchOption, codes};
+ghost use Rattle.std.specs.Prelude.{◌≡◌, MatchOption, codes};
 ghost use Rattle.std.specs.Option.{option_copied};
 ghost use Rattle.std.specs.Str.{bytes_eq};
-ghost use Rattle.mycoll.specs.Words.{named_files};
+ghost use Rattle.mycoll.specs.Words.{words_form};
+ghost use Rattle.mycoll.specs.Words.WordsForm.{file_words, no_form};
 
 use mc_base::{List, NoMemory, Text};
 use std::alloc::Global;
@@ -39,9 +40,9 @@ fn read_word(alloc: Global, rt: &impl Env, i: usize) -> Result<Option<Text>, NoM
     Err(NoMemory)
 }
 
-/// The files that words of a form name: a catalog, if one is there, and a script.
+/// The files that words name: a catalog, if one is there, and a script.
 #[derive(Clone, Copy)]
-pub struct NamedFiles<'a> {
+pub struct FileNames<'a> {
     pub catalog: Option<&'a Text>,
     pub script: &'a Text,
 }
@@ -53,17 +54,20 @@ fn is_make(word: &Text) -> bool
     word.as_slice() == b"--make".as_slice()
 }
 
-/// The files that the words name, where they are of a form: a script, or a catalog and a script.
-pub fn named_files(words: &[Text]) -> Option<NamedFiles<'_>>
-    ensures { MatchOption result (named_files words.now ≡ None) (λ named. named_files words.now
-        ≡ Some (record { catalog = option_copied named.catalog; script = named.script.now })) }
+/// The files that the words name, where they are of that form: a script, or a catalog and a script.
+pub fn named_files(words: &[Text]) -> Option<FileNames<'_>>
+    ensures { MatchOption result (words_form words.now ≡ no_form) (λ named. words_form words.now
+        ≡ file_words (record {
+          catalog = option_copied named.catalog;
+          script = named.script.now;
+        })) }
 {
     match words {
-        [script] if !is_make(script) => Some(NamedFiles {
+        [script] if !is_make(script) => Some(FileNames {
             catalog: None,
             script,
         }),
-        [catalog, script] if !is_make(catalog) => Some(NamedFiles {
+        [catalog, script] if !is_make(catalog) => Some(FileNames {
             catalog: Some(catalog),
             script,
         }),

@@ -1,6 +1,5 @@
 -- What was written and why it may have stopped say that the run is complete.
 use Rattle.mycoll.specs.Run.{task}
-use Rattle.mycoll.proofs.OneAnswer.{one_answer}
 use Rattle.mycoll.proofs.RunSteps.{complete_told}
 use Rattle.mycoll.proofs.run.run.Goals as goal
 
@@ -11,6 +10,3 @@ returns-clause-complete g c =
     (g.F.Files.faults c.args.files.now) (g.F.Files.faults c.run_words.new.files)
     (g.S.Sink.faults c.args.out.now) (g.S.Sink.faults c.run_words.new.out)
     c.run_words.ensures.told c.run_words.ensures.read c.run_words.ensures.write
-
-pub returns-clause-once : goal.returns-clause-once
-returns-clause-once g c = one_answer
