@@ -17,7 +17,7 @@ pub record StringCloses (quote at : ℕ) (bytes : List ℕ) (end : ℕ) : Type 0
   pub is_content : IsContent quote content
   pub not_doubled : EndOr (λ (byte : ℕ). byte ≢ quote) behind
 
-with_plain : (quote byte : ℕ) (content : List ℕ) → IsPlain quote byte → IsContent quote content
+pub with_plain : (quote byte : ℕ) (content : List ℕ) → IsPlain quote byte → IsContent quote content
     → IsContent quote (byte ∷ content)
 with_plain quote byte [] plain h = plain
 with_plain quote byte (next ∷ content) plain h = inl (plain, h)
@@ -102,13 +102,13 @@ string_closes quote at (byte ∷ next ∷ bytes) end h =
       ]
     ]
 
-plain_passed : (quote at byte next : ℕ) (bytes : List ℕ) → IsPlain quote byte
+pub plain_passed : (quote at byte next : ℕ) (bytes : List ℕ) → IsPlain quote byte
     → quote_end quote at (byte ∷ next ∷ bytes) ≡ quote_end quote (at + 1) (next ∷ bytes)
 unfolding quote_end
 plain_passed quote at byte next bytes h =
     rw (is_other byte quote h.0, is_other byte backslash h.1) refl
 
-pair_passed : (quote at byte next : ℕ) (bytes : List ℕ) → quote ≢ backslash
+pub pair_passed : (quote at byte next : ℕ) (bytes : List ℕ) → quote ≢ backslash
     → IsPair quote byte next
     → quote_end quote at (byte ∷ next ∷ bytes) ≡ quote_end quote (at + 2) bytes
 unfolding quote_end

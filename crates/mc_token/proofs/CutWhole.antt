@@ -12,7 +12,7 @@ use Rattle.mc_token.proofs.CutExists.{part_of}
 
 -- No other list is a cut
 
-front_element : (first : ℕ) (others behind : List ℕ) (kind : Kind)
+pub front_element : (first : ℕ) (others behind : List ℕ) (kind : Kind)
     → element_of first (others ++ behind) ≡ element_with kind (suc (length others))
     → elements (first ∷ (others ++ behind))
     ≡ element_with kind (suc (length others)) ∷ elements behind
@@ -25,7 +25,7 @@ front_element first others behind kind h =
     (ap (λ (n : ℕ). elements_behind n bytes) count
     ∙ elements_behind-drop (length others) bytes ∙ ap elements (drop-append_seam others behind))
 
-taken_front : (bytes : List ℕ) (part : Element) (behind : List ℕ) → Takes bytes part behind
+pub taken_front : (bytes : List ℕ) (part : Element) (behind : List ℕ) → Takes bytes part behind
     → elements bytes ≡ part ∷ elements behind
 taken_front bytes part behind t =
     let f = element_found part.kind t.taken behind t.is_element in

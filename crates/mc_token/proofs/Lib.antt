@@ -25,6 +25,8 @@ pub mod TokenLaws
 pub mod Cover
 pub mod Stops
 pub mod Folded
+pub mod Within
+pub mod StatementEnds
 pub mod Keywords
 pub mod Introducers
 pub mod Parts

@@ -54,3 +54,10 @@ pub record StopsAt (end at : ℕ) (bytes : List ℕ) (place : ℕ) : Type 0 wher
       → Takes behind blank left → place + blank.len ≤ end → ⊥
   pub no_token : (spelled left : List ℕ) (says : Lexeme) → behind ≡ spelled ++ left
       → IsToken spelled left says → place + length spelled ≤ end → ⊥
+
+-- What begins at a place of the script, where these bytes begin, ends within the statement.
+pub record EndsWithin (end place : ℕ) (bytes : List ℕ) : Type 0 where
+  pub blanks : (blank : Element) (left : List ℕ) → is_blank blank.kind ≡ true
+      → Takes bytes blank left → place + blank.len ≤ end
+  pub tokens : (spelled left : List ℕ) (says : Lexeme) → bytes ≡ spelled ++ left
+      → IsToken spelled left says → place + length spelled ≤ end

@@ -3,6 +3,7 @@ use Rattle.std.proofs.lemmas.List.{length-drop}
 use Rattle.mc_token.proofs.TokenLaws.{tokens-order, tokens-texts}
 use Rattle.mc_token.proofs.Folded.{tokens-folded}
 use Rattle.mc_token.proofs.OneSpelling.{one_spelling}
+use Rattle.mc_token.proofs.StatementEnds.{statement-holds}
 use Rattle.mc_token.proofs.HexDigits.{bytes-digits}
 use Rattle.mc_token.proofs.Cover.{tokens_cover, cover_is_tokens}
 use Rattle.mc_token.proofs.Stops.{tokens_stop, stop_is_fault}
@@ -17,6 +18,9 @@ returns-clause-texts c = tokens-texts
 
 pub returns-clause-folded : goal.returns-clause-folded
 returns-clause-folded c = tokens-folded
+
+pub returns-clause-within : goal.returns-clause-within
+returns-clause-within c = statement-holds
 
 pub returns-clause-one_spelling : goal.returns-clause-one_spelling
 returns-clause-one_spelling c = one_spelling
