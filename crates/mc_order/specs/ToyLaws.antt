@@ -11,8 +11,8 @@ use Rattle.mc_charset.specs.Chars.{spell, spell_all, code_points}
 use Rattle.mc_charset.proofs.CodePoints.{spelled_code_point}
 use Rattle.mc_order.specs.Order.{list_order, order_to_end}
 use Rattle.mc_order.specs.Meaning.{separator, flat_list, IsHead, IsSafe, AreCharsOf}
-use Rattle.mc_order.specs.Laws.{greatest_weight, IsWeight, IsCut, KeepsSettings, KeepsContractions, KeepsTails}
-use Rattle.mc_order.specs.Laws.{IsLawful}
+use Rattle.mc_order.specs.Laws.{greatest_weight, IsWeight, IsCut, KeepsSettings}
+use Rattle.mc_order.specs.Laws.{KeepsContractions, KeepsTails, IsLawful}
 use Rattle.mc_order.specs.Characters.{AreCharsOf-parts}
 use Rattle.mc_order.specs.Tails.{insert_list, ascending, fronts, tails_of}
 use Rattle.mc_order.specs.TailsLaw.{KeepsTails-from}
@@ -61,8 +61,8 @@ one_fits weight some below =
     All-cons (IsWeight toy_meaning) weight [] (fits weight some below)
     (All-nil (IsWeight toy_meaning))
 
-two_fit : (weight other : ℕ) → 1 ≤ weight → weight ≤ greatest_weight → 1 ≤ other → other ≤ greatest_weight →
-    All (IsWeight toy_meaning) (weight ∷ other ∷ [])
+two_fit : (weight other : ℕ) → 1 ≤ weight → weight ≤ greatest_weight → 1 ≤ other →
+    other ≤ greatest_weight → All (IsWeight toy_meaning) (weight ∷ other ∷ [])
 two_fit weight other some below more within =
     All-cons (IsWeight toy_meaning) weight (other ∷ []) (fits weight some below)
     (one_fits other more within)
