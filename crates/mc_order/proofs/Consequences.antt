@@ -1,6 +1,6 @@
 -- What follows from the laws of a collation.
-use Rattle.std.proofs.Common.{◌≡◌, ◌≢◌, ℕ, zero, suc, ◌≤◌, Bool, true, false, List, [], ◌∷◌, ◌++◌, append_assoc, length, take, drop, refl, sym, ap, ◌∙◌, subst, inl, inr, arith}
-use Rattle.std.specs.List.{All, Contains}
+use Rattle.std.proofs.Common.{◌≡◌, ℕ, zero, suc, ◌≤◌, Bool, true, false, List, [], ◌∷◌, ◌++◌, append_assoc, length, take, drop, refl, sym, ap, ◌∙◌, subst, inl, inr, arith}
+use Rattle.std.specs.List.{All}
 use Rattle.std.proofs.lemmas.Bool.Decides.{nat_tests}
 use Rattle.std.proofs.lemmas.List.{take-append-drop}
 use Rattle.std.proofs.lemmas.List.Elements.{All-cons, All-head, All-tail, All-append, All-weaker, All-contains}
@@ -14,7 +14,7 @@ use Rattle.mc_order.specs.Consequences.{before_separator, FirstListBegins, FlatL
 use Rattle.mc_order.specs.Floor.{weighs}
 use Rattle.mc_order.specs.FloorLaw.{weighs_decides}
 use Rattle.mc_order.specs.Laws.{greatest_weight, IsWeight, HasWeightPerChar, KeepsSpace, IsLawful}
-use Rattle.mc_order.specs.Meaning.{Meaning, joined_levels, flat_list, IsCharOf, AreCharsOf, IsSafe}
+use Rattle.mc_order.specs.Meaning.{Meaning, separator, joined_levels, flat_list, IsCharOf, AreCharsOf, IsSafe}
 use Rattle.mc_order.specs.Tails.{tails_of}
 use Rattle.mc_order.specs.TailsLaw.{tails_of-ascends, tails_of-each, tails_of-none}
 
@@ -32,10 +32,10 @@ before_nothing (w ∷ a) p =
     positive_first w a (All-head IsPositive w a p)
     ∙ ap (λ t. w ∷ t) (before_nothing a (All-tail IsPositive w a p))
 
-before_more : (a x : List ℕ) → All IsPositive a → before_separator (a ++ 0 ∷ x) ≡ a
+before_more : (a x : List ℕ) → All IsPositive a → before_separator (a ++ separator ∷ x) ≡ a
 before_more [] x p = refl
 before_more (w ∷ a) x p =
-    positive_first w (a ++ 0 ∷ x) (All-head IsPositive w a p)
+    positive_first w (a ++ separator ∷ x) (All-head IsPositive w a p)
     ∙ ap (λ t. w ∷ t) (before_more a x (All-tail IsPositive w a p))
 
 first_of_joined : (levels : ℕ) (list : ℕ → List ℕ) → All IsPositive (list 1) →
@@ -44,8 +44,8 @@ first_of_joined zero list p = before_nothing (list 1) p
 first_of_joined (suc zero) list p = before_nothing (list 1) p
 first_of_joined (suc (suc zero)) list p = before_more (list 1) (list 2) p
 first_of_joined (suc (suc (suc more))) list p =
-    ap before_separator (append_assoc (list 1) (0 ∷ list 2) (0 ∷ list 3))
-    ∙ before_more (list 1) (list 2 ++ 0 ∷ list 3) p
+    ap before_separator (append_assoc (list 1) (separator ∷ list 2) (separator ∷ list 3))
+    ∙ before_more (list 1) (list 2 ++ separator ∷ list 3) p
 
 pub first_list_begins : (m : Meaning) → IsLawful m → FirstListBegins m
 first_list_begins m laws codes chars =
@@ -67,11 +67,11 @@ joined_bounded : (levels : ℕ) (list : ℕ → List ℕ) →
 joined_bounded zero list h some = absurd (omega arith)
 joined_bounded (suc zero) list h some = h 1 (omega arith) (omega arith)
 joined_bounded (suc (suc zero)) list h some =
-    All-append IsBounded (list 1) (0 ∷ list 2) (h 1 (omega arith) (omega arith))
+    All-append IsBounded (list 1) (separator ∷ list 2) (h 1 (omega arith) (omega arith))
     (All-cons IsBounded 0 (list 2) (omega arith) (h 2 (omega arith) (omega arith)))
 joined_bounded (suc (suc (suc more))) list h some =
-    All-append IsBounded (list 1 ++ 0 ∷ list 2) (0 ∷ list 3)
-    (All-append IsBounded (list 1) (0 ∷ list 2) (h 1 (omega arith) (omega arith))
+    All-append IsBounded (list 1 ++ separator ∷ list 2) (separator ∷ list 3)
+    (All-append IsBounded (list 1) (separator ∷ list 2) (h 1 (omega arith) (omega arith))
     (All-cons IsBounded 0 (list 2) (omega arith) (h 2 (omega arith) (omega arith))))
     (All-cons IsBounded 0 (list 3) (omega arith) (h 3 (omega arith) (omega arith)))
 

@@ -14,6 +14,7 @@ use Rattle.std.proofs.lemmas.List.{at_drop_more, at_drop_all}
 use Rattle.mc_order.specs.declared.pad.Pad.{Pad}
 use Rattle.mc_order.specs.declared.pad.Pad.TheVariants.{PadSpace, NoPad}
 use Rattle.mc_order.proofs.Steps.{list_order-same}
+use Rattle.mc_order.specs.Meaning.{separator}
 use Rattle.mc_order.specs.Order.{prolonged, AgreeBefore, Compares, IsOrder, order_to_end, list_order}
 
 agree_everywhere : (p q : ℕ → ℕ) → p 0 ≡ q 0 → ((i : ℕ) → p (suc i) ≡ q (suc i)) → (i : ℕ) →
@@ -257,34 +258,34 @@ known_more x y Less h above = absurd (omega arith)
 known_more x y Equal h above = absurd (omega arith)
 known_more x y Greater h above = refl
 
--- A list that ends before the other one stands before it, as 0 before a weight.
+-- A list that ends before the other one stands before it, as a separator before a weight.
 levels-end_left : (space y : ℕ) (ys more other : List ℕ) → 0 < y →
-    list_order NoPad space (0 ∷ more) (y ∷ (ys ++ 0 ∷ other))
+    list_order NoPad space (separator ∷ more) (y ∷ (ys ++ separator ∷ other))
     ≡ ordering_then (list_order NoPad space [] (y ∷ ys)) (list_order NoPad space more other)
 unfolding list_order order_to_end
 levels-end_left space y ys more other some =
-    ap (λ o. ordering_then o (list_order NoPad space more (ys ++ 0 ∷ other)))
+    ap (λ o. ordering_then o (list_order NoPad space more (ys ++ separator ∷ other)))
     (known_less 0 y (nat_cmp 0 y) (ranked 0 y (nat_cmp 0 y) refl) some)
 
 levels-end_right : (space x : ℕ) (xs more other : List ℕ) → 0 < x →
-    list_order NoPad space (x ∷ (xs ++ 0 ∷ more)) (0 ∷ other)
+    list_order NoPad space (x ∷ (xs ++ separator ∷ more)) (separator ∷ other)
     ≡ ordering_then (list_order NoPad space (x ∷ xs) []) (list_order NoPad space more other)
 unfolding list_order order_to_end
 levels-end_right space x xs more other some =
-    ap (λ o. ordering_then o (list_order NoPad space (xs ++ 0 ∷ more) other))
+    ap (λ o. ordering_then o (list_order NoPad space (xs ++ separator ∷ more) other))
     (known_more x 0 (nat_cmp x 0) (ranked x 0 (nat_cmp x 0) refl) some)
 
 -- Weights before a separator decide, else what stands behind it.
-pub list_order-levels : (space : ℕ) (a b more other : List ℕ) → All (λ weight. 0 < weight) a →
-    All (λ weight. 0 < weight) b → list_order NoPad space (a ++ 0 ∷ more) (b ++ 0 ∷ other)
+pub list_order-levels : (space : ℕ) (a b more other : List ℕ) → All (λ weight. separator < weight) a →
+    All (λ weight. separator < weight) b → list_order NoPad space (a ++ separator ∷ more) (b ++ separator ∷ other)
     ≡ ordering_then (list_order NoPad space a b) (list_order NoPad space more other)
 unfolding list_order order_to_end
 list_order-levels space [] [] more other pa pb =
     list_order-same NoPad space 0 0 more other refl
 list_order-levels space [] (y ∷ ys) more other pa pb =
-    levels-end_left space y ys more other (All-head (λ weight. 0 < weight) y ys pb)
+    levels-end_left space y ys more other (All-head (λ weight. separator < weight) y ys pb)
 list_order-levels space (x ∷ xs) [] more other pa pb =
-    levels-end_right space x xs more other (All-head (λ weight. 0 < weight) x xs pa)
+    levels-end_right space x xs more other (All-head (λ weight. separator < weight) x xs pa)
 list_order-levels space (x ∷ xs) (y ∷ ys) more other pa pb =
     after (nat_cmp x y) _ _ _ (list_order-levels space xs ys more other
-    (All-tail (λ weight. 0 < weight) x xs pa) (All-tail (λ weight. 0 < weight) y ys pb))
+    (All-tail (λ weight. separator < weight) x xs pa) (All-tail (λ weight. separator < weight) y ys pb))

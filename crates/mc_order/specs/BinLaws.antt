@@ -7,7 +7,7 @@ use Rattle.std.proofs.lemmas.List.Elements.{All-nil, All-cons}
 use Rattle.mc_charset.specs.declared.charset.Charset.{Charset}
 use Rattle.mc_charset.specs.declared.charset.Charset.TheVariants.{Latin1, Ascii, Utf8mb3, Utf8mb4}
 use Rattle.mc_charset.specs.declared.charset.Charset.TheVariants.{Ucs2, Utf16, Utf32, Binary}
-use Rattle.mc_charset.specs.Chars.{spell}
+use Rattle.mc_charset.specs.Chars.{spell, code_points}
 use Rattle.mc_charset.proofs.CodePoints.{spelled_code_point}
 use Rattle.mc_order.specs.declared.pad.Pad.{Pad}
 use Rattle.mc_order.specs.declared.pad.Pad.TheVariants.{PadSpace, NoPad}
@@ -55,7 +55,7 @@ bin_settings set pad = record {
 
 number_fits : (set : Charset) (one : Bool) (code : ℕ) (text : List ℕ) → is_one_byte set ≡ one →
     spell set code ≡ Some text →
-    (bin_number set code < 256 ^ cond one 1 3) × (bin_number set code < 0x110000)
+    (bin_number set code < 256 ^ cond one 1 3) × (bin_number set code < code_points)
 unfolding bin_number
 number_fits set true code text is s =
     let h = one_byte set code text is s in

@@ -7,12 +7,12 @@ use Rattle.std.specs.Prelude.{slice_index_or, if◌then◌else◌}
 use Rattle.std.proofs.lemmas.Bool.Decides.{nat_tests}
 use Rattle.std.proofs.lemmas.List.Elements.{All-nil, All-cons, All-append}
 use Rattle.mc_charset.specs.declared.charset.Charset.TheVariants.{Binary}
-use Rattle.mc_charset.specs.Chars.{spell, spell_all}
+use Rattle.mc_charset.specs.Chars.{spell, spell_all, code_points}
 use Rattle.mc_charset.proofs.CodePoints.{spelled_code_point}
 use Rattle.mc_order.specs.Order.{list_order, order_to_end}
-use Rattle.mc_order.specs.Meaning.{flat_list, IsHead, IsSafe, AreCharsOf}
-use Rattle.mc_order.specs.Laws.{IsWeight, IsCut, KeepsSettings, KeepsContractions, KeepsTails}
-use Rattle.mc_order.specs.Laws.{IsLawful}
+use Rattle.mc_order.specs.Meaning.{separator, flat_list, IsHead, IsSafe, AreCharsOf}
+use Rattle.mc_order.specs.Laws.{greatest_weight, IsWeight, IsCut, KeepsSettings}
+use Rattle.mc_order.specs.Laws.{KeepsContractions, KeepsTails, IsLawful}
 use Rattle.mc_order.specs.Characters.{AreCharsOf-parts}
 use Rattle.mc_order.specs.Tails.{insert_list, ascending, fronts, tails_of}
 use Rattle.mc_order.specs.TailsLaw.{KeepsTails-from}
@@ -52,17 +52,17 @@ by_test : (b : Bool) (P : Type 0) → (b ≡ true → P) → (b ≡ false → P)
 by_test true P holds fails = holds refl
 by_test false P holds fails = fails refl
 
-fits : (weight : ℕ) → 1 ≤ weight → weight ≤ 0x110000 → IsWeight toy_meaning weight
+fits : (weight : ℕ) → 1 ≤ weight → weight ≤ greatest_weight → IsWeight toy_meaning weight
 fits weight some below = (some, below, omega arith, omega arith)
 
-one_fits : (weight : ℕ) → 1 ≤ weight → weight ≤ 0x110000 →
+one_fits : (weight : ℕ) → 1 ≤ weight → weight ≤ greatest_weight →
     All (IsWeight toy_meaning) (weight ∷ [])
 one_fits weight some below =
     All-cons (IsWeight toy_meaning) weight [] (fits weight some below)
     (All-nil (IsWeight toy_meaning))
 
-two_fit : (weight other : ℕ) → 1 ≤ weight → weight ≤ 0x110000 → 1 ≤ other → other ≤ 0x110000 →
-    All (IsWeight toy_meaning) (weight ∷ other ∷ [])
+two_fit : (weight other : ℕ) → 1 ≤ weight → weight ≤ greatest_weight → 1 ≤ other →
+    other ≤ greatest_weight → All (IsWeight toy_meaning) (weight ∷ other ∷ [])
 two_fit weight other some below more within =
     All-cons (IsWeight toy_meaning) weight (other ∷ []) (fits weight some below)
     (one_fits other more within)
@@ -72,12 +72,12 @@ at_level : (first : Bool) (a b : List ℕ) → All (IsWeight toy_meaning) a →
 at_level true a b ha hb = ha
 at_level false a b ha hb = hb
 
-last_fits : (first : Bool) (code : ℕ) → code < 0x110000 →
+last_fits : (first : Bool) (code : ℕ) → code < code_points →
     All (IsWeight toy_meaning) (cond first (code + 1) 1 ∷ [])
 last_fits true code below = one_fits (code + 1) (omega arith) (omega arith)
 last_fits false code below = one_fits 1 (omega arith) (omega arith)
 
-capital_fits : (level code : ℕ) → code < 0x110000 →
+capital_fits : (level code : ℕ) → code < code_points →
     All (IsWeight toy_meaning) (capital_weights level code)
 capital_fits level code below =
     by_test (code == 0x2D) (All (IsWeight toy_meaning) (capital_weights level code))
@@ -91,7 +91,7 @@ capital_fits level code below =
     (one_fits 0x42 (omega arith) (omega arith)) (one_fits 2 (omega arith) (omega arith))))
     (λ acute. rw (minus, and, acute) (last_fits (level == 1) code below))))
 
-folded_below : (code : ℕ) → code < 0x110000 → folded code < 0x110000
+folded_below : (code : ℕ) → code < code_points → folded code < code_points
 folded_below code below = grind (arith, nat_tests)
 
 dzs_fits : (first : Bool) → All (IsWeight toy_meaning) (cond first 0x100 1 ∷ [])
@@ -252,12 +252,12 @@ toy_lawful = record {
 
 -- The flat list of a capital.
 abbrev flat_of : ℕ → List ℕ
-flat_of code = capital_weights 1 code ++ 0 ∷ capital_weights 2 code
+flat_of code = capital_weights 1 code ++ separator ∷ capital_weights 2 code
 
 flat_is : (code : ℕ) → flat_list toy_meaning (code ∷ []) ≡ flat_of (folded code)
 flat_is code =
-    ap (λ w. w ++ 0 ∷ toy_list 0 2 (code ∷ [])) (toy_list-alone 1 code)
-    ∙ ap (λ w. capital_weights 1 (folded code) ++ 0 ∷ w) (toy_list-alone 2 code)
+    ap (λ w. w ++ separator ∷ toy_list 0 2 (code ∷ [])) (toy_list-alone 1 code)
+    ∙ ap (λ w. capital_weights 1 (folded code) ++ separator ∷ w) (toy_list-alone 2 code)
 
 -- The capital that has a flat list.
 abbrev shown : List ℕ → ℕ

@@ -37,9 +37,9 @@ fn shared_blocks(a: &[u8], b: &[u8]) -> usize
 
 /// Whether two texts have one first block.
 fn same_block(a: &[u8], b: &[u8]) -> bool
-    requires first { 32 ≤ length a.now }
-    requires second { 32 ≤ length b.now }
-    ensures { OnTrue result (take 32 a.now ≡ take 32 b.now) }
+    requires first { BLOCK ≤ length a.now }
+    requires second { BLOCK ≤ length b.now }
+    ensures { OnTrue result (take BLOCK a.now ≡ take BLOCK b.now) }
 {
     a[..BLOCK] == b[..BLOCK]
 }

@@ -1,7 +1,10 @@
 use crate::toy::Toy;
-use crate::{BinCollation, Collation, Pad, characters_laws, collation_laws, compare_lists};
+use crate::{
+    BinCollation, Collation, Pad, characters_laws, collation_laws, compare_lists, order_laws,
+    shared_bytes, shared_start,
+};
 use mc_base::Weights;
-use mc_charset::{CollId, is_well_formed};
+use mc_charset::{Charset, CollId, is_well_formed};
 use std::cmp::Ordering;
 
 /// Two texts, the number of a collation, and their order.
@@ -120,10 +123,26 @@ fn lists_are_put(rt: HostRuntime) {
 
 #[test]
 fn lists_compare(rt: HostRuntime) {
+    order_laws();
     let (tab, space) = ([0x62, 0x0A], [0x62, 0x21]);
     assert!(rt; compare_lists(&tab, &tab[..1], Pad::NoPad, 0) == Ordering::Greater);
     assert!(rt; compare_lists(&tab, &tab[..1], Pad::PadSpace, 0x21) == Ordering::Less);
     assert!(rt; compare_lists(&space[..1], &space, Pad::PadSpace, 0x21) == Ordering::Equal);
+}
+
+#[test]
+fn texts_part(rt: HostRuntime) {
+    let (a, b) = (b"x\xC3\xA9".as_slice(), b"x\xC3\xA8".as_slice());
+    assert!(rt;
+        shared_bytes(a, b) == 2,
+        "U+00E9 and U+00E8 have one first byte"
+    );
+    if is_well_formed(Charset::Utf8mb4, a) && is_well_formed(Charset::Utf8mb4, b) {
+        assert!(rt;
+            shared_start(Charset::Utf8mb4, a, b) == 1,
+            "and are two characters"
+        );
+    }
 }
 
 /// Two texts of the small kind, and their order.

@@ -1,5 +1,5 @@
 //! The weights of a text in the small kind of the tests, read from its bytes.
-ghost use Rattle.mc_order.specs.Meaning.{flat_list};
+ghost use Rattle.mc_order.specs.Meaning.{flat_list, separator};
 ghost use Rattle.mc_order.specs.Toy.{begins_dzs, capital_weights, dzs_weights, folded};
 ghost use Rattle.mc_order.specs.Toy.{toy_list, toy_meaning};
 ghost use Rattle.std.specs.Bool.{OnTrue};
@@ -144,7 +144,7 @@ pub(crate) struct ToyWeights<'a> {
 impl<'a> WeightStream for ToyWeights<'a> {
     ghost left = { λ weights. option_to_list weights.level.second
         ++ toy_list 0 weights.level.level weights.level.text.now
-        ++ (if weights.on_first then 0 ∷ toy_list 0 2 weights.whole.now else []) };
+        ++ (if weights.on_first then separator ∷ toy_list 0 2 weights.whole.now else []) };
 
     fn next_weight(&mut self) -> Option<u32> {
         if let Some(weight) = self.level.next_weight() {
@@ -164,7 +164,7 @@ impl<'a> ToyWeights<'a> {
     pub(crate) fn new(text: &'a [u8]) -> ToyWeights<'a>
         ensures { option_to_list result.level.second
             ++ toy_list 0 result.level.level result.level.text.now
-            ++ (if result.on_first then 0 ∷ toy_list 0 2 result.whole.now else [])
+            ++ (if result.on_first then separator ∷ toy_list 0 2 result.whole.now else [])
             ≡ flat_list toy_meaning text.now }
     {
         ToyWeights {

@@ -6,6 +6,6 @@ pub loop-at-preserved : goal.loop-at-preserved
 loop-at-preserved c = record {
   within_first = omega arith;
   within_second = omega arith;
-  same = more_same c.args.a.now c.args.b.now c.loop-at.at 32 c.loop-at.invariant.same
+  same = more_same c.args.a.now c.args.b.now c.loop-at.at _ c.loop-at.invariant.same
       c.if-same_block.ensures;
 }

@@ -1,4 +1,4 @@
-use Rattle.std.proofs.Common.{refl, sym, ◌≡◌, ◌-◌, false, true, arith}
+use Rattle.std.proofs.Common.{refl, ◌≡◌, ◌-◌, false, true, arith}
 use Rattle.mc_order.proofs.Boundary.{shares_front, take_fewer}
 use Rattle.mc_order.proofs.SharedStart.{none_behind_shared, none_behind_less, parts_at_once}
 use Rattle.mc_order.proofs.shared.shared_start.Goals as goal
