@@ -4,6 +4,7 @@ pub mod CollationChoice
 pub mod Escapes
 pub mod Texts
 pub mod OneAnswer
+pub mod OwnText
 pub mod Told
 pub mod RunSteps
 pub mod ValueSteps

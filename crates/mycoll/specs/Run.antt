@@ -1,5 +1,5 @@
 -- What a run of some words is to do, what it has written when it ends, and why it may end early.
-use Rattle.std.specs.Prelude.{◌≡◌, ◌⊎◌, ℕ, Bool, true, false, List, Option, Some, None, Result, Ok}
+use Rattle.std.specs.Prelude.{◌≡◌, ◌⊎◌, ℕ, Bool, true, false, List, Option, Some, Result, Ok}
 use Rattle.std.specs.Prelude.{Err, option_map, take, if◌then◌else◌, ⊤}
 use Rattle.mc_base.specs.Faults.{Rose}
 use Rattle.mc_base.specs.Sink.{appended}

@@ -92,17 +92,17 @@ fn answer_query<B: Book>(
     book: &B,
     session: &Session,
     script: &[u8],
-    query: &Query,
+    query: Query,
 ) -> Result<Said, NoMemory>
-    requires of_script { IsOfScript script.now query.now }
+    requires of_script { IsOfScript script.now query }
     requires sound { AreSound (world_of catalog.now (B.meaning book.now)) (B.count book.now)
         (state_of session.now) }
     ensures is { IfOk result (λ said. said ≡ query_said (world_of catalog.now (B.meaning book.now))
-        (state_of session.now) script.now query.now) }
+        (state_of session.now) script.now query) }
     ensures texts { IfOk result HasTexts }
 {
     let header = &script[query.header.start as usize..query.header.end as usize];
-    match form_value(alloc, catalog, book, session, &query.form) {
+    match form_value(alloc, catalog, book, session, query.form) {
         Ok(value) => one_cell(alloc, header, value),
         Err(Unanswered::Refused(refusal)) => Ok(Said::Refused(refusal)),
         Err(Unanswered::NoMemory) => Err(NoMemory),
@@ -140,7 +140,7 @@ fn answer_statement<B: Book>(
     ensures kept { IfErr result (λ _. session.new ≡ session.old) }
 {
     match read_statement(alloc, script, statement)? {
-        Some(query) => answer_query(alloc, catalog, book, session, script, &query),
+        Some(query) => answer_query(alloc, catalog, book, session, script, query),
         None => refuse_reading(alloc, statement),
     }
 }

@@ -98,16 +98,16 @@ fn operand_value(
     alloc: Global,
     catalog: &Catalog,
     connection: Charset,
-    operand: &Operand,
+    operand: Operand,
 ) -> Result<OperandValue, Unanswered>
     requires lawful { IsLawful catalog.now }
-    requires utf8 { HasUtf8 operand.now.literal }
-    ensures is { IsWanted result (operand_value catalog.now connection operand.now) }
-    ensures of_set { IfOk result (AreOfSet catalog.now (operand_set connection operand.now)) }
-    ensures named { IfOk result (λ found. is_some found.collation ≡ is_some operand.now.collation) }
+    requires utf8 { HasUtf8 operand.literal }
+    ensures is { IsWanted result (operand_value catalog.now connection operand) }
+    ensures of_set { IfOk result (AreOfSet catalog.now (operand_set connection operand)) }
+    ensures named { IfOk result (λ found. is_some found.collation ≡ is_some operand.collation) }
 {
     let set = literal_set(connection, &operand.literal);
-    let text = literal_text(alloc, connection, &operand.literal)?;
+    let text = literal_text(alloc, connection, operand.literal)?;
     let collation = named_collation(alloc, catalog, set, &operand.collation)?;
     let value = within_limit(text);
     Ok(OperandValue { value, collation })
@@ -130,18 +130,18 @@ fn comparison<B: Book>(
     catalog: &Catalog,
     book: &B,
     session: &Session,
-    left: &Operand,
-    right: &Operand,
+    left: Operand,
+    right: Operand,
 ) -> Result<Value, Unanswered>
-    requires left { HasUtf8 left.now.literal }
-    requires right { HasUtf8 right.now.literal }
-    requires compared { IsTrue (are_compared left.now right.now) }
+    requires left { HasUtf8 left.literal }
+    requires right { HasUtf8 right.literal }
+    requires compared { IsTrue (are_compared left right) }
     requires one_set { let set = connection_set (world_of catalog.now (B.meaning book.now))
-        (state_of session.now) in operand_set set left.now ≡ operand_set set right.now }
+        (state_of session.now) in operand_set set left ≡ operand_set set right }
     requires sound { AreSound (world_of catalog.now (B.meaning book.now)) (B.count book.now)
         (state_of session.now) }
     ensures is { IsWanted result (comparison (world_of catalog.now (B.meaning book.now))
-        (state_of session.now) left.now right.now) }
+        (state_of session.now) left right) }
     ensures text { IfOk result IsTextOfSet }
 {
     let connection = connection_set(catalog, session);
@@ -170,13 +170,9 @@ fn digits_of(alloc: Global, connection: Charset, text: &Option<Text>) -> Result<
 
 /// The digits of a literal's bytes.
 #[tactic(auto, unfolding(crate::specs::Forms::literal_digits))]
-fn literal_digits(
-    alloc: Global,
-    connection: Charset,
-    literal: &Literal,
-) -> Result<Value, Unanswered>
-    requires { HasUtf8 literal.now }
-    ensures is { IsWanted result (literal_digits connection literal.now) }
+fn literal_digits(alloc: Global, connection: Charset, literal: Literal) -> Result<Value, Unanswered>
+    requires { HasUtf8 literal }
+    ensures is { IsWanted result (literal_digits connection literal) }
     ensures text { IfOk result IsTextOfSet }
 {
     let text = literal_text(alloc, connection, literal)?;
@@ -188,20 +184,20 @@ fn literal_digits(
 fn converted_digits(
     alloc: Global,
     connection: Charset,
-    literal: &Literal,
+    literal: Literal,
     name: &Text,
 ) -> Result<Value, Unanswered>
-    requires { HasUtf8 literal.now }
-    ensures is { IsWanted result (converted_digits connection literal.now name.now) }
+    requires { HasUtf8 literal }
+    ensures is { IsWanted result (converted_digits connection literal name.now) }
     ensures text { IfOk result IsTextOfSet }
 {
+    let from = literal_set(connection, &literal);
     let text = literal_text(alloc, connection, literal)?;
     let Some(set) = charset_by_name(name.as_slice()) else {
         return Err(refused(unknown_set(alloc, name.as_slice())));
     };
-    let from = literal_set(connection, literal);
     let value = match within_limit(text) {
-        Some(text) => conversion(alloc, from, set, text.as_slice())?,
+        Some(text) => conversion(alloc, from, set, text)?,
         None => None,
     };
     Ok(digits_of(alloc, connection, &value)?)
@@ -226,25 +222,25 @@ pub fn form_value<B: Book>(
     catalog: &Catalog,
     book: &B,
     session: &Session,
-    form: &Form,
+    form: Form,
 ) -> Result<Value, Unanswered>
-    requires read { IsRead form.now }
+    requires read { IsRead form }
     requires sound { AreSound (world_of catalog.now (B.meaning book.now)) (B.count book.now)
         (state_of session.now) }
     ensures is { IsWanted result (form_value (world_of catalog.now (B.meaning book.now))
-        (state_of session.now) form.now) }
+        (state_of session.now) form) }
     ensures text { IfOk result IsTextOfSet }
 {
     let connection = connection_set(catalog, session);
     match form {
         Form::Compare { left, right } => {
-            if have_one_set(connection, left, right) {
+            if have_one_set(connection, &left, &right) {
                 comparison(alloc, catalog, book, session, left, right)
             } else {
                 Err(refused(not_built(alloc)))
             }
         }
         Form::Hex(literal) => literal_digits(alloc, connection, literal),
-        Form::HexConvert { literal, set } => converted_digits(alloc, connection, literal, set),
+        Form::HexConvert { literal, set } => converted_digits(alloc, connection, literal, &set),
     }
 }

@@ -77,6 +77,7 @@ pub fn push_escaped(out: &mut Text, text: &[u8]) -> Result<(), NoMemory>
 }
 
 /// Appends a text of a set as a cell: bytes in hexadecimal digits, characters in UTF-8.
+#[tactic(auto, using(crate::proofs::OwnText::own_text))]
 fn push_text_cell(alloc: Global, out: &mut Text, set: Charset, text: &[u8]) -> Result<(), NoMemory>
     requires { IsWellFormed set text.now }
     ensures { OnOk result (out.new ≡ out.old ++ text_cell set text.now) }
@@ -84,6 +85,9 @@ fn push_text_cell(alloc: Global, out: &mut Text, set: Charset, text: &[u8]) -> R
     if set == Charset::Binary {
         out.extend_from_slice(b"0x")?;
         return out.extend_from_slice(hex_text(alloc, text)?.as_slice());
+    }
+    if set == Charset::Utf8mb4 {
+        return push_escaped(out, text);
     }
     push_escaped(out, convert(alloc, set, Charset::Utf8mb4, text)?.as_slice())
 }

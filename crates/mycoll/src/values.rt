@@ -50,23 +50,36 @@ pub fn literal_set(connection: Charset, literal: &Literal) -> Charset
     }
 }
 
+/// The text in another set: as it is where that is its own, else converted.
+#[tactic(auto, using(crate::proofs::OwnText::own_text))]
+fn in_set(alloc: Global, from: Charset, to: Charset, text: Text) -> Result<Text, NoMemory>
+    requires { IsWellFormed from text }
+    ensures is { IfOk result (λ found. found ≡ converted_text from to text) }
+    ensures well_formed { IfOk result (λ found. IsWellFormed to found) }
+{
+    if from == to {
+        return Ok(text);
+    }
+    convert(alloc, from, to, text.as_slice())
+}
+
 /// The script's characters as a text of a set.
-fn script_text(alloc: Global, set: Charset, text: &[u8]) -> Result<Text, NoMemory>
-    requires { IsUtf8 text.now }
-    ensures is { IfOk result (λ found. found ≡ converted_text Utf8mb4 set text.now) }
+fn script_text(alloc: Global, set: Charset, text: Text) -> Result<Text, NoMemory>
+    requires { IsUtf8 text }
+    ensures is { IfOk result (λ found. found ≡ converted_text Utf8mb4 set text) }
     ensures well_formed { IfOk result (λ found. IsWellFormed set found) }
 {
     utf8_law();
-    convert(alloc, Charset::Utf8mb4, set, text)
+    in_set(alloc, Charset::Utf8mb4, set, text)
 }
 
 /// The bytes as they stand.
-fn binary_text(alloc: Global, bytes: &[u8]) -> Result<Text, NoMemory>
-    ensures is { IfOk result (λ text. text ≡ bytes.now) }
-    ensures well_formed { IfOk result (λ text. IsWellFormed Binary text) }
+fn binary_text(bytes: Text) -> Text
+    ensures is { result ≡ bytes }
+    ensures well_formed { IsWellFormed Binary result }
 {
-    bytes_law(bytes);
-    Text::from_slice(alloc, bytes)
+    bytes_law(bytes.as_slice());
+    bytes
 }
 
 /// An introducer's bytes as a text of its set; refused where they are none.
@@ -85,18 +98,18 @@ fn introduced_text(alloc: Global, set: Charset, bytes: &[u8]) -> Result<Text, Un
 pub fn literal_text(
     alloc: Global,
     connection: Charset,
-    literal: &Literal,
+    literal: Literal,
 ) -> Result<Text, Unanswered>
-    requires { HasUtf8 literal.now }
-    ensures is { IsWanted result (literal_text connection literal.now) }
+    requires { HasUtf8 literal }
+    ensures is { IsWanted result (literal_text connection literal) }
     ensures well_formed { IfOk result (λ text.
-        IsWellFormed (literal_set connection literal.now) text) }
+        IsWellFormed (literal_set connection literal) text) }
 {
     match literal {
-        Literal::Plain(text) => Ok(script_text(alloc, connection, text.as_slice())?),
-        Literal::National(text) => Ok(script_text(alloc, Charset::Utf8mb3, text.as_slice())?),
-        Literal::Hex(bytes) => Ok(binary_text(alloc, bytes.as_slice())?),
-        Literal::Introduced { set, bytes } => introduced_text(alloc, *set, bytes.as_slice()),
+        Literal::Plain(text) => Ok(script_text(alloc, connection, text)?),
+        Literal::National(text) => Ok(script_text(alloc, Charset::Utf8mb3, text)?),
+        Literal::Hex(bytes) => Ok(binary_text(bytes)),
+        Literal::Introduced { set, bytes } => introduced_text(alloc, set, bytes.as_slice()),
     }
 }
 
@@ -107,18 +120,18 @@ pub fn conversion(
     alloc: Global,
     from: Charset,
     to: Charset,
-    text: &[u8],
+    text: Text,
 ) -> Result<Option<Text>, NoMemory>
-    requires { IsWellFormed from text.now }
-    ensures is { IfOk result (λ value. value ≡ conversion from to text.now) }
+    requires { IsWellFormed from text }
+    ensures is { IfOk result (λ value. value ≡ conversion from to text) }
 {
     if from == Charset::Binary && to != Charset::Binary {
-        return match reinterpret(alloc, to, text)? {
+        return match reinterpret(alloc, to, text.as_slice())? {
             Some(taken) => Ok(within_limit(taken)),
             None => Ok(None),
         };
     }
-    Ok(within_limit(convert(alloc, from, to, text)?))
+    Ok(within_limit(in_set(alloc, from, to, text)?))
 }
 
 /// A hexadecimal digit, in upper case.
@@ -161,7 +174,7 @@ pub fn hex_value(alloc: Global, connection: Charset, bytes: &[u8]) -> Result<Opt
     ensures well_formed { IfOk result (λ value. IfSome value (IsWellFormed connection)) }
 {
     match within_limit(hex_text(alloc, bytes)?) {
-        Some(digits) => Ok(within_limit(script_text(alloc, connection, digits.as_slice())?)),
+        Some(digits) => Ok(within_limit(script_text(alloc, connection, digits)?)),
         None => Ok(None),
     }
 }
