@@ -7,3 +7,4 @@ pub mod ReadLemmas
 pub mod RangeLemmas
 pub mod PutLemmas
 pub mod PieceLemmas
+pub mod FrontLemmas

@@ -4,7 +4,7 @@ use Rattle.std.specs.List.{starts_with}
 use Rattle.mc_allkeys.specs.Pieces.{piece_len, IsRightCut, pieces_behind, pieces}
 
 -- A piece has a code.
-greatest : (n : ℕ) (lens : List ℕ) → n ≤ fold max n lens
+pub greatest : (n : ℕ) (lens : List ℕ) → n ≤ fold max n lens
 greatest n [] = omega arith
 greatest n (len ∷ lens) = omega (arith, greatest (max n len) lens)
 

@@ -3,6 +3,7 @@ pub mod Table
 pub mod Longest
 pub mod Put
 pub mod Pieces
+pub mod Fronts
 pub mod Levels
 pub mod Cuts
 pub mod Listed

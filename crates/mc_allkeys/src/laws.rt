@@ -1,7 +1,8 @@
-ghost use Rattle.std.specs.Prelude.{◌≡◌, ℕ, List};
+ghost use Rattle.std.specs.Prelude.{◌≡◌, ◌⊎◌, ◌≤◌, ◌<◌, ℕ, List, ◌∷◌, ◌++◌, [], take, drop};
 ghost use Rattle.mc_base.specs.FirstFault.{HasNoFault, IsFirstFault};
 ghost use Rattle.mc_allkeys.specs.Faults.{fault_of};
-ghost use Rattle.mc_allkeys.specs.Pieces.{IsRightCut, pieces};
+ghost use Rattle.mc_allkeys.specs.Fronts.{IsPieceLen, IsHead, IsFresh, IsAcross, IsFrontCut};
+ghost use Rattle.mc_allkeys.specs.Pieces.{IsRightCut, piece_len, pieces};
 ghost use Rattle.mc_allkeys.specs.declared.fault.KeysFault.{KeysFault};
 
 /// The laws of the cut into pieces: a text has one right cut, and its pieces are it.
@@ -11,6 +12,33 @@ pub fn cut_law()
         IsRightCut contractions codes other → one ≡ other }
     ensures right { (contractions : List (List ℕ)) (codes : List ℕ) →
         IsRightCut contractions codes (pieces contractions codes) }
+{}
+
+/// The laws of the piece that begins a text: its length is the greatest one; a piece of at most k
+/// codes is that of the first k codes, and a longer one goes on behind them.
+pub fn piece_law()
+    ensures is { (contractions : List (List ℕ)) (codes : List ℕ) →
+        IsPieceLen contractions codes (piece_len contractions codes) }
+    ensures one { (contractions : List (List ℕ)) (codes : List ℕ) (len : ℕ) →
+        IsPieceLen contractions codes len → piece_len contractions codes ≡ len }
+    ensures within { (contractions : List (List ℕ)) (codes : List ℕ) (k : ℕ) →
+        piece_len contractions codes ≤ k →
+        piece_len contractions (take k codes) ≡ piece_len contractions codes }
+    ensures across { (contractions : List (List ℕ)) (codes : List ℕ) (k : ℕ) → 1 ≤ k →
+        k < piece_len contractions codes → IsAcross contractions (take k codes) (drop k codes) }
+{}
+
+/// The laws of the cut of a text's first codes: it begins with the pieces of the text. Where no
+/// contraction reaches from them into what follows, the text is cut there.
+pub fn front_law()
+    ensures front { (contractions : List (List ℕ)) (k : ℕ) (codes : List ℕ) →
+        IsFrontCut contractions k codes }
+    ensures fresh { (contractions : List (List ℕ)) (k : ℕ) (codes : List ℕ) →
+        IsFresh contractions (drop k codes) → pieces contractions codes
+        ≡ pieces contractions (take k codes) ++ pieces contractions (drop k codes) }
+    ensures alone { (contractions : List (List ℕ)) (code : ℕ) (rest : List ℕ) →
+        (IsHead contractions code → ⊥) ⊎ IsFresh contractions rest →
+        pieces contractions (code ∷ rest) ≡ (code ∷ []) ∷ pieces contractions rest }
 {}
 
 /// The law of the files of element tables: lines have no fault, or one first fault, so that a file
