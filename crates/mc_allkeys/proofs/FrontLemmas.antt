@@ -3,10 +3,10 @@ use Rattle.std.proofs.Common.{◌≡◌, ◌≢◌, ℕ, zero, suc, ◌+◌, ◌
 use Rattle.std.specs.List.{starts_with, Contains, concat}
 use Rattle.std.proofs.lemmas.Bool.{cases_lt}
 use Rattle.std.proofs.lemmas.Bool.Decides.{Decides-eqb}
-use Rattle.std.proofs.lemmas.List.{take-take, take-append-drop, take_at, drop_at, drop-take, drop-drop, drop-append-le, take-append-le}
+use Rattle.std.proofs.lemmas.List.{take-take, take-append-drop, take_at, drop-take, drop-drop}
 use Rattle.std.proofs.lemmas.Slice.Eq.{starts_is}
-use Rattle.mc_allkeys.specs.Fronts.{IsPieceLen, IsHead, IsInner, IsFresh, IsAcross, IsFrontCut}
-use Rattle.mc_allkeys.specs.Pieces.{piece_len, pieces_behind, pieces}
+use Rattle.mc_allkeys.specs.Fronts.{IsPieceLen, IsHead, IsFresh, IsAcross, IsFrontCut}
+use Rattle.mc_allkeys.specs.Pieces.{piece_len, pieces}
 use Rattle.mc_allkeys.proofs.PieceLemmas.{greatest, piece_len-positive, pieces-step}
 
 -- whether a contraction begins the codes
@@ -66,7 +66,7 @@ later_or : (codes : List ℕ) (text : List ℕ) (texts : List (List ℕ)) (n len
 later_or codes text texts n len (inl e) = inl e
 later_or codes text texts n len (inr h) = inr (later codes text texts len h)
 
-le_or_lt : (a b : ℕ) → (a ≤ b) ⊎ (b < a)
+pub le_or_lt : (a b : ℕ) → (a ≤ b) ⊎ (b < a)
 le_or_lt a b = by (cases_lt b a)
   where
     by : (b < a) ⊎ (a ≤ b) → (a ≤ b) ⊎ (b < a)

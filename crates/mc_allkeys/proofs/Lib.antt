@@ -1,6 +1,7 @@
 pub mod CellLemmas
 pub mod PlaceLemmas
 pub mod EntryLemmas
+pub mod SoundLemmas
 pub mod CutLemmas
 pub mod ListedLemmas
 pub mod ReadLemmas
@@ -8,3 +9,5 @@ pub mod RangeLemmas
 pub mod PutLemmas
 pub mod PieceLemmas
 pub mod FrontLemmas
+pub mod LevelLemmas
+pub mod LongestLemmas

@@ -1,5 +1,6 @@
 pub mod Texts
 pub mod Table
+pub mod Sound
 pub mod Longest
 pub mod Put
 pub mod Pieces
