@@ -11,3 +11,4 @@ pub mod PieceLemmas
 pub mod FrontLemmas
 pub mod LevelLemmas
 pub mod LongestLemmas
+mod StandardFacts
