@@ -1,5 +1,5 @@
 -- Parts of a list that grows, and the elements that cells name in it.
-use Rattle.std.proofs.Common.{◌≡◌, ◌≤◌, ◌+◌, ℕ, List, ◌++◌, length, take, drop, Option, Some, None, option_map, refl, ap, arith}
+use Rattle.std.proofs.Common.{◌≡◌, ◌≤◌, ◌+◌, List, ◌++◌, length, Option, Some, None, option_map, refl, ap, arith}
 use Rattle.std.proofs.lemmas.Grind.{common_steps}
 use Rattle.mc_allkeys.specs.Cells.{part_of, IsPartOf}
 use Rattle.mc_allkeys.specs.declared.page.Part.{Part}

@@ -5,7 +5,7 @@ use Rattle.std.specs.List.{list_all, slice_split, onto_first}
 use Rattle.mc_base.specs.Blanks.{is_blank, without_leading}
 use Rattle.mc_base.specs.Fields.{fields_of}
 use Rattle.mc_allkeys.specs.Cuts.{parts_at}
-use Rattle.mc_allkeys.specs.Listed.{all_of, code_of, codes_of, element_at, element_of_parts, elements_of_parts, elements_of}
+use Rattle.mc_allkeys.specs.Listed.{code_of, codes_of, element_at, element_of_parts, elements_of_parts, elements_of}
 use Rattle.mc_allkeys.specs.declared.element.Element.{Element}
 
 -- What is read so far stands in front of what the rest gives.

@@ -1,10 +1,10 @@
 -- A text has one right cut, and `pieces` is it.
-use Rattle.std.proofs.Common.{◌≡◌, ℕ, zero, suc, ◌+◌, ◌-◌, ◌≤◌, ◌<◌, max, List, [], ◌∷◌, length, map, filter, fold, take, drop, length-drop, nat_eq, refl, sym, ap, subst, ◌∙◌, arith}
+use Rattle.std.proofs.Common.{◌≡◌, ℕ, zero, suc, ◌-◌, ◌≤◌, max, List, [], ◌∷◌, length, map, filter, fold, take, drop, length-drop, nat_eq, refl, sym, ap, subst, ◌∙◌, arith}
 use Rattle.std.specs.List.{starts_with}
 use Rattle.mc_allkeys.specs.Pieces.{piece_len, IsRightCut, pieces_behind, pieces}
 
 -- A piece has a code.
-greatest : (n : ℕ) (lens : List ℕ) → n ≤ fold max n lens
+pub greatest : (n : ℕ) (lens : List ℕ) → n ≤ fold max n lens
 greatest n [] = omega arith
 greatest n (len ∷ lens) = omega (arith, greatest (max n len) lens)
 

@@ -1,18 +1,16 @@
 -- Entries in the order of their texts: what is found at a place, and what goes there.
 use Rattle.std.proofs.Common.{◌≡◌, ◌≢◌, ℕ, zero, suc, ◌+◌, ◌<◌, ◌≤◌, Bool, true, false, T, ◌&&◌, List, [], ◌∷◌, ◌++◌, length, take, drop, get_or, set, Option, Some, None, slice_index_or, if◌then◌else◌, refl, sym, ap, subst, ◌∙◌, ◌⊎◌, inl, inr, arith}
-use Rattle.std.specs.Cmp.{IsTotalOrder}
 use Rattle.std.specs.Cmp.Lexicographic.{nat_list_cmp_total}
 use Rattle.std.specs.FinMap as map
 use Rattle.std.specs.FinMap.{find, put, is_sorted, FinMap, from_sorted, entries-from_sorted, len-entries, get-from_sorted, same_entries_map, entries-insert, empty_of_len}
 use Rattle.std.specs.FinMap.Entries.{is_sorted-put}
-use Rattle.std.specs.FinMap.Entries.{below_all, by_order}
-use Rattle.std.specs.List.{insert, All}
-use Rattle.std.specs.Ordering.{is_eq, is_lt, eq_by_cmp, ordering_reverse}
+use Rattle.std.specs.FinMap.Entries.{below_all}
+use Rattle.std.specs.List.{insert}
+use Rattle.std.specs.Ordering.{is_lt, ordering_reverse}
 use Rattle.std.specs.declared.cmp.Ordering.{Ordering}
 use Rattle.std.specs.declared.cmp.Ordering.TheVariants.{Less, Equal, Greater}
 use Rattle.std.proofs.lemmas.Bool.{cases_order}
 use Rattle.std.proofs.lemmas.List.{get_or_read}
-use Rattle.std.proofs.lemmas.Map.Lookups.{exact_bytes}
 use Rattle.mc_allkeys.specs.Places.{IsFoundAt, IsGapAt}
 use Rattle.mc_allkeys.specs.Texts.{text_cmp}
 use Rattle.mc_allkeys.specs.declared.element.Element.{Element}

@@ -5,9 +5,8 @@ use Rattle.std.specs.FinMap as map
 use Rattle.std.specs.FinMap.{get-insert}
 use Rattle.std.proofs.lemmas.Bool.{cases_order}
 use Rattle.std.proofs.lemmas.List.{get_or_read}
-use Rattle.mc_allkeys.specs.Put.{IsNoneOf, IsPut}
+use Rattle.mc_allkeys.specs.Put.{IsPut}
 use Rattle.mc_allkeys.specs.Table.{ElementTable, Entries}
-use Rattle.mc_allkeys.specs.Texts.{text_cmp}
 use Rattle.mc_allkeys.specs.declared.element.Element.{Element}
 use Rattle.mc_allkeys.proofs.EntryLemmas.{apart, same}
 

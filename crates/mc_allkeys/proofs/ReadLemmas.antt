@@ -1,24 +1,23 @@
 -- A file read up to some line: the table of the lines before it, none of which has a fault.
-use Rattle.std.proofs.Common.{◌≡◌, ℕ, Bool, true, false, ◌&&◌, nat_le, nat_lt, length, List, [], ◌∷◌, ◌++◌, map, Option, Some, None, is_some, Result, Ok, Err, if◌then◌else◌, refl, sym, ap, ◌∙◌, append_assoc, append-nil}
+use Rattle.std.proofs.Common.{◌≡◌, ℕ, Bool, true, false, ◌&&◌, nat_le, nat_lt, length, List, [], ◌∷◌, ◌++◌, Option, Some, None, is_some, Ok, Err, if◌then◌else◌, refl, sym, ap, ◌∙◌, append_assoc, append-nil}
 use Rattle.std.specs.Cmp.Lexicographic.{nat_list_cmp_total}
 use Rattle.std.specs.FinMap as fin
 use Rattle.std.specs.FinMap.{get-from_entries, from_entries_push, slice_cmp-IsAntisymmetric, nat_cmp-IsAntisymmetric}
 use Rattle.std.specs.List.{filter_map}
 use Rattle.std.proofs.lemmas.List.{map-append}
 use Rattle.std.proofs.lemmas.List.Elements.{filter_map-append}
-use Rattle.mc_base.specs.FirstFault.{HasNoFault, IsFirstFault, first_fault}
+use Rattle.mc_base.specs.FirstFault.{HasNoFault, IsFirstFault}
 use Rattle.mc_base.specs.Lines.{lines_of}
 use Rattle.mc_base.proofs.FirstFaultLemmas.{no_fault-none, no_fault-more, first_fault-behind, first_fault-none, first_fault-some}
-use Rattle.mc_allkeys.specs.Faults.{said_lines, entry_said, range_said, table_by, fault_by, fault_of, listed_fault, HasLineFault, with_line, greatest_count}
+use Rattle.mc_allkeys.specs.Faults.{said_lines, entry_said, range_said, table_by, fault_by, fault_of, HasLineFault, with_line, greatest_count}
 use Rattle.mc_allkeys.specs.KeysFile.{IsKeysOf, IsKeysFault, keys_outcome, unless_fault, HasFault}
 use Rattle.mc_allkeys.specs.Said.{Said, said_of}
 use Rattle.mc_allkeys.specs.Said.Said.{Bad, Skipped, Surrogate, Ranged, Listed}
-use Rattle.mc_allkeys.specs.Table.{ElementTable, Entries, is_long, contractions_of}
+use Rattle.mc_allkeys.specs.Table.{ElementTable, is_long, contractions_of}
 use Rattle.mc_allkeys.specs.Texts.{text_cmp}
 use Rattle.mc_allkeys.specs.declared.element.Element.{Element}
 use Rattle.mc_allkeys.specs.declared.fault.KeysFault.{KeysFault}
 use Rattle.mc_allkeys.specs.declared.fault.KeysFault.TheVariants.{BadLine, TooLongContraction, TooManyElements, Repeated, TooManyContractions, NoMemory}
-use Rattle.mc_allkeys.specs.declared.range.Range.{Range}
 
 -- Tables of equal parts are one.
 same_table : (one other : ElementTable) → one.entries ≡ other.entries → one.ranges ≡ other.ranges →

@@ -1,8 +1,10 @@
 pub mod Texts
 pub mod Table
+pub mod Sound
 pub mod Longest
 pub mod Put
 pub mod Pieces
+pub mod Fronts
 pub mod Levels
 pub mod Cuts
 pub mod Listed

@@ -1,5 +1,5 @@
 -- Entries put into a table, each in the place of the one that its text may have.
-use Rattle.std.specs.Prelude.{◌≡◌, ◌≢◌, ℕ, ◌<◌, List, [], length, Some, slice_index_or}
+use Rattle.std.specs.Prelude.{◌≡◌, ◌≢◌, ℕ, ◌<◌, List, [], Some, slice_index_or}
 use Rattle.std.specs.FinMap as map
 use Rattle.mc_allkeys.specs.Table.{ElementTable}
 use Rattle.mc_allkeys.specs.declared.element.Element.{Element}

@@ -1,6 +1,6 @@
 -- What a line of an element table says: UTS #10, 9.1 and 9.2.
 use Rattle.std.specs.Prelude.{ℕ, ◌==◌, ◌&&◌, Bool, nat_le, nat_lt, nat_eq, List, ◌∷◌, Option, Some}
-use Rattle.std.specs.Prelude.{None, slice_index, if◌then◌else◌}
+use Rattle.std.specs.Prelude.{slice_index, if◌then◌else◌}
 use Rattle.std.specs.List.{list_any, list_all, starts_with}
 use Rattle.std.specs.Option.{option_map_or}
 use Rattle.mc_allkeys.specs.Cuts.{cut_at}

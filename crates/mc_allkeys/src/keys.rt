@@ -2,13 +2,15 @@ ghost use Rattle.std.specs.Prelude.{◌≡◌, ◌≤◌, ◌<◌, ◌^◌, ◌+
 ghost use Rattle.std.specs.Prelude.{None, Some, true, false, length, take, nat_le, slice_index};
 ghost use Rattle.std.specs.Prelude.{slice_index_or, IfOk, OnOk, MatchOption};
 ghost use Rattle.std.specs.FinMap as map;
+ghost use Rattle.std.specs.List.{All};
 ghost use Rattle.mc_allkeys.specs.Keys.{entries_in};
 ghost use Rattle.mc_allkeys.specs.Longest.{HasNoLonger, IsLongest};
 ghost use Rattle.mc_allkeys.specs.Singles.{is_head_in};
+ghost use Rattle.mc_allkeys.specs.Sound.{HasWeights, IsSound};
 ghost use Rattle.mc_allkeys.specs.Table.{contractions_of, implicit_of};
 
 use crate::contractions::Contractions;
-use crate::element::Element;
+use crate::element::{Element, read_weights};
 use crate::range::{Range, implicit_of};
 use crate::singles::Singles;
 use mc_base::{List, NoMemory, Weights};
@@ -27,6 +29,8 @@ pub struct Keys {
     ghost heads: { (code : ℕ) (rest : ListOf ℕ) →
         map.contains_key contractions (code ∷ rest) ≡ true → is_head_in singles code ≡ true },
     ghost few: { map.len contractions < 2 ^ 32 },
+    ghost sound: { IsSound
+        (record { entries = entries_in singles contractions; ranges = ranges.items }) },
 }
 
 impl Model for Keys {
@@ -113,6 +117,14 @@ impl Keys {
     {
         self.contractions.text(i as usize)
     }
+
+    /// What holds of each table: texts of one to six code points, weights of two bytes.
+    pub(crate) fn sound(&self)
+        ensures { IsSound self.now }
+    {
+        let _ranges = self.ranges.as_slice();
+    }
+
     /// Whether a text has an entry.
     pub(crate) fn lists(&self, text: &[u32]) -> bool
         ensures { result ≡ map.contains_key self.now.entries text.now }
@@ -138,6 +150,7 @@ impl Keys {
             (self.new.entries ≡ map.insert self.old.entries text.now elements.now) }
         ensures ranges { self.new.ranges ≡ self.old.ranges }
     {
+        read_weights(elements);
         if text.len() == 1 {
             self.singles.put(text[0], elements)
         } else {
@@ -155,6 +168,7 @@ impl Keys {
         requires long { 2 ≤ length text.now }
         requires short { length text.now ≤ 6 }
         requires codes { (k : ℕ) → slice_index text.now k ≤ 0x10FFFF }
+        requires weights { All HasWeights elements.now }
         ensures entries { OnOk result
             (self.new.entries ≡ map.insert self.old.entries text.now elements.now) }
         ensures ranges { self.new.ranges ≡ self.old.ranges }
@@ -184,6 +198,7 @@ impl Keys {
     {
         self.ranges.as_slice()
     }
+
     /// The same table.
     pub(crate) fn copy(&self, alloc: Global) -> Result<Keys, NoMemory>
         ensures { IfOk result (λ copy. copy ≡ self.now) }

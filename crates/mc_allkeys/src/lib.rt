@@ -30,6 +30,6 @@ mod singles;
 pub use element::Element;
 pub use fault::KeysFault;
 pub use keys::Keys;
-pub use laws::{cut_law, keys_file_law};
+pub use laws::{cut_law, front_law, keys_file_law, keys_law, level_law, longest_law, piece_law};
 pub use range::Range;
 pub use reader::read_allkeys;

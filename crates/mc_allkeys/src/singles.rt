@@ -84,8 +84,7 @@ impl Singles {
     #[tactic(auto, unfolding(crate::specs::Singles::single_in, crate::specs::Singles::is_head_in))]
     pub(crate) fn mark_head(&mut self, code: u32) -> Result<(), NoMemory>
         requires { code ≤ 0x10FFFF }
-        ensures entries { OnOk result
-            ((c : ℕ) → single_in self.new c ≡ single_in self.old c) }
+        ensures entries { (c : ℕ) → single_in self.new c ≡ single_in self.old c }
         ensures kept { (c : ℕ) → is_head_in self.old c ≡ true → is_head_in self.new c ≡ true }
         ensures marked { OnOk result (is_head_in self.new code ≡ true) }
     {
@@ -102,6 +101,8 @@ impl Singles {
         requires { code ≤ 0x10FFFF }
         ensures entries { OnOk result ((c : ℕ) → single_in self.new c
             ≡ (if c == code then Some elements.now else single_in self.old c)) }
+        ensures unchanged { OnErr result
+            ((c : ℕ) → single_in self.new c ≡ single_in self.old c) }
         ensures heads { (c : ℕ) → is_head_in self.new c ≡ is_head_in self.old c }
     {
         let part = self.append(elements)?;
@@ -111,6 +112,7 @@ impl Singles {
         };
         self.put_cell(code, cell)
     }
+
     /// The cell of a code point.
     fn cell(&self, code: u32) -> Cell
         ensures cell { result ≡ cell_at self.now.pages code }

@@ -1,3 +1,4 @@
 pub mod Bases
 pub mod Jamo
 pub mod Outside
+pub mod Elements

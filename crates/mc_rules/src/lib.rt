@@ -1,15 +1,18 @@
 //! The elements of characters that an element table doesn't list.
 //!
 //! UTS #10, 10.1.3, and the Unicode Standard, 3.12, on Hangul syllables; the lists of ideographs
-//! are the project's own. `specs/Outside.antt` says which elements a character has.
+//! are the project's own. `specs/Outside.antt` says which elements a character has,
+//! `specs/Elements.antt` which elements a piece has, and which lists of weights a text.
 #![tactic(auto)]
 
 mod bases;
 mod family;
 mod jamo;
+mod laws;
 #[cfg(test)]
 mod tests;
 mod unlisted;
 
 pub use family::UcaFamily;
+pub use laws::elements_law;
 pub use unlisted::outside;
