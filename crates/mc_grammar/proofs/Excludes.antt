@@ -28,19 +28,19 @@ compared (x ∷ f) v (y ∷ h) w e =
     elim (compared f v h w others) [
       | inl p ↦ inl (cc, p.1)
       | inr (inl p) ↦ inr (inl (record {
-          next = p.next;
-          more = p.more;
-          longer = ap (λ (z : List _). y ∷ z) p.longer
-              ∙ ap (λ (z : _). z ∷ (f ++ (p.next ∷ p.more))) (sym first);
-          same_rest = p.same_rest;
-        }))
+        next = p.next;
+        more = p.more;
+        longer = ap (λ (z : List _). y ∷ z) p.longer
+            ∙ ap (λ (z : _). z ∷ (f ++ (p.next ∷ p.more))) (sym first);
+        same_rest = p.same_rest;
+      }))
       | inr (inr p) ↦ inr (inr (record {
-          next = p.next;
-          more = p.more;
-          longer = ap (λ (z : List _). x ∷ z) p.longer
-              ∙ ap (λ (z : _). z ∷ (h ++ (p.next ∷ p.more))) first;
-          same_rest = p.same_rest;
-        }))
+        next = p.next;
+        more = p.more;
+        longer = ap (λ (z : List _). x ∷ z) p.longer
+            ∙ ap (λ (z : _). z ∷ (h ++ (p.next ∷ p.more))) first;
+        same_rest = p.same_rest;
+      }))
     ]
 
 -- Bound tokens that are freed stay within the limit.
@@ -160,7 +160,8 @@ module _ {K R A T : Type 0} (g : Grammar K R A T) (deeper : A → List Bool) (li
         | inr (inr s) ↦ deep_before h w f v s q.deeper_on p.goes
       ]
     where
-      at_one : (u z : List T) → GoesNoFurther g deeper limit r u z → GoesDeeper g deeper limit r u z → ⊥
+      at_one : (u z : List T) → GoesNoFurther g deeper limit r u z
+          → GoesDeeper g deeper limit r u z → ⊥
       at_one u [] s t = t
       at_one u (x ∷ z) s t = s t.0
 

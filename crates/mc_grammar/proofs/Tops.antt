@@ -1,6 +1,7 @@
 -- What a descent says at the top, of the grammar without room: where no reading goes on, and where
 -- none goes on within the limit.
-use Rattle.std.proofs.Common.{◌≡◌, inl, ℕ, suc, Bool, List, [], ◌∷◌, ◌++◌, refl, sym, ap, ◌∙◌, append_assoc, append-nil, map, subst, arith, None}
+use Rattle.std.proofs.Common.{◌≡◌, inl, ℕ, suc, Bool, List, [], ◌∷◌, ◌++◌, refl, sym, ap, ◌∙◌}
+use Rattle.std.proofs.Common.{append_assoc, append-nil, map, subst, arith, None}
 use Rattle.std.proofs.lemmas.List.{map-append}
 use Rattle.mc_grammar.specs.Grammar.{Grammar, rule}
 use Rattle.mc_grammar.specs.Reading.{Forest, bare, leaf, node, tokens_of, IsReading}
@@ -11,7 +12,9 @@ use Rattle.mc_grammar.specs.Nest.{Marked, bound, free, unmarked, Nested, nested,
 use Rattle.mc_grammar.specs.Room.{room_language, whole_rule}
 use Rattle.mc_grammar.specs.Goes.{GoesOn, GoesOnWithin, Whole}
 use Rattle.mc_grammar.proofs.Paths.{stuck_stops, left_over, allows_end}
-use Rattle.mc_grammar.proofs.Rooms.{unmarked_forest, tokens_of-unmarked, fits_unmarked, reads_within, Given, within_reads, free_within, values_of-unmarked}
+use Rattle.mc_grammar.proofs.Rooms.{unmarked_forest, tokens_of-unmarked, fits_unmarked}
+use Rattle.mc_grammar.proofs.Rooms.{reads_within, Given, within_reads, free_within}
+use Rattle.mc_grammar.proofs.Rooms.{values_of-unmarked}
 use Rattle.mc_grammar.proofs.RoomTables.{room_sound}
 
 unmarked_bound : {T : Type 0} (u : List T) (w : List (Marked T))

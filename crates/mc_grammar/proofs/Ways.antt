@@ -1,9 +1,11 @@
 -- The steps of a way through a function that reads a rule, in short.
-use Rattle.std.proofs.Common.{◌≡◌, ℕ, ◌+◌, ◌-◌, ◌≤◌, max, Bool, List, [], ◌∷◌, ◌++◌, length, IsTrue, Option, arith}
+use Rattle.std.proofs.Common.{◌≡◌, ℕ, ◌+◌, ◌-◌, ◌≤◌, max, Bool, List, [], ◌∷◌, ◌++◌, length, IsTrue}
+use Rattle.std.proofs.Common.{Option, arith}
 use Rattle.mc_grammar.specs.Grammar.{rule}
 use Rattle.mc_grammar.specs.Ahead.{Ahead, every}
 use Rattle.mc_grammar.specs.Language.{Language, IsSound}
-use Rattle.mc_grammar.specs.Places.{Place, behind_next, before, entries, all_pass, all_out, kept, is_next, is_barred, Sees, Inside, Done, Fails, IsTooDeep}
+use Rattle.mc_grammar.specs.Places.{Place, behind_next, before, entries, all_pass, all_out, kept}
+use Rattle.mc_grammar.specs.Places.{is_next, is_barred, Sees, Inside, Done, Fails, IsTooDeep}
 use Rattle.mc_grammar.specs.Chains.{Chain}
 use Rattle.mc_grammar.specs.Completions.{Completions, Complete}
 use Rattle.mc_grammar.proofs.Inside.{enter, narrow, widened, token, read, leave}

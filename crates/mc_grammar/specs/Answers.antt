@@ -6,7 +6,8 @@ use Rattle.mc_grammar.specs.Reading.{Forest, IsReading}
 use Rattle.mc_grammar.specs.Nest.{bound, nested, AreWithin}
 use Rattle.mc_grammar.specs.Goes.{GoesOn, GoesOnWithin}
 
-module _ {K R A T : Type 0} (g : Grammar K R A T) (deeper : A → List Bool) (limit : ℕ) (r : R) where
+module _ {K R A T : Type 0} (g : Grammar K R A T) (deeper : A → List Bool) (limit : ℕ)
+    (r : R) where
   -- The tokens have a reading by the rule, none of them deeper than the limit.
   pub record HasReading (tokens : List T) : Type 0 where
     pub reading : Forest A T

@@ -21,8 +21,8 @@ module _ {K R A T : Type 0} (g : Grammar K R A T) where
     pub within : AreWithin limit (nested deeper 0 [] reading)
         (map (λ x. bound x) tokens ++ map (λ x. free x) later)
 
-  -- A reading of all the tokens by the rule, none of them deeper than the limit, and its value, where
-  -- `view` gives the values of the trees of a forest.
+  -- A reading of all the tokens by the rule, none of them deeper than the limit, and its value,
+  -- where `view` gives the values of the trees of a forest.
   pub record Whole {V : Type 0} (deeper : A → List Bool) (limit : ℕ) (r : R)
       (view : Forest A T → List V) (tokens : List T) (value : V) : Type 0 where
     pub reading : Forest A T

@@ -3,7 +3,8 @@ ghost use Rattle.mc_grammar.specs.Grammar.{Grammar};
 ghost use Rattle.mc_grammar.specs.Answers.{HasReading, HasNoReading, HasDeepReading};
 
 /// The laws of the three answers of a parser, whatever the grammar: no two of them fit one list of
-/// tokens, and each has one place in it. Public source: Aho, Lam, Sethi and Ullman, Compilers, 4.1.3.
+/// tokens, and each has one place in it. Public source: Aho, Lam, Sethi and Ullman, Compilers,
+/// 4.1.3.
 pub fn answers_exclude_each_other<K, R, A, T>()
     ensures reading_or_none { (g : Grammar K R A T) (deeper : A → List Bool) (limit : ℕ) (r : R)
         (tokens front rest : List T) → HasReading g deeper limit r tokens

@@ -14,9 +14,7 @@ mod unique;
 mod whole;
 
 pub use completed::symbols_are_completed;
-pub use errors::{
-    depths_come_first, ends_come_first, failures_come_first, left_tokens_come_first,
-};
+pub use errors::{depths_come_first, ends_come_first, failures_come_first, left_tokens_come_first};
 pub use exclusive::answers_exclude_each_other;
 pub use unique::readings_are_unique;
 pub use whole::whole_readings_have_values;

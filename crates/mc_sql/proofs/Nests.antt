@@ -1,6 +1,6 @@
 -- The levels of a reading are its nests.
-use Rattle.std.proofs.Common.{◌≡◌, refl, sym, ap, ◌∙◌, subst, ℕ, suc, ◌+◌, ◌-◌, Bool, true, false, not}
-use Rattle.std.proofs.Common.{◌&&◌, List, [], ◌∷◌, ◌++◌, length, map, IsTrue, arith}
+use Rattle.std.proofs.Common.{◌≡◌, refl, sym, ap, ◌∙◌, ℕ, suc, ◌+◌, ◌-◌, Bool, true, false}
+use Rattle.std.proofs.Common.{not, ◌&&◌, List, [], ◌∷◌, ◌++◌, length, map, IsTrue, arith}
 use Rattle.std.proofs.lemmas.List.{map-append, length-append}
 use Rattle.std.proofs.lemmas.Slice.Eq.{bytes_eq-Decides}
 use Rattle.mc_token.specs.Marks.{mark_text}
@@ -257,7 +257,8 @@ node_nests inside marks before around a x f e p inner rest = record {
     same_length = open_length (level_at inside before) (tokens_of x)
         ∙ sym (prefixes_length (level_at (is_prefixed a) around) x)
 
-    inside_levels : levels (nested deeper (level_at (first_mark marks) (before + around)) (deeper a) x)
+    inside_levels :
+        levels (nested deeper (level_at (first_mark marks) (before + around)) (deeper a) x)
         ≡ levels (nested deeper (level_at inside before + level_at (is_prefixed a) around)
         (inner_marks a) x)
     inside_levels =

@@ -1,5 +1,6 @@
 -- How deep a token stands in a statement, and how deep it may: MySQL 8.0 manual, 12.4.1.
-use Rattle.std.specs.Prelude.{ℕ, suc, ◌+◌, ◌-◌, Bool, true, false, List, [], ◌∷◌, ◌++◌}
+use Rattle.std.specs.Prelude.{ℕ, suc, ◌+◌, ◌-◌, Bool, true, false, List, [], ◌∷◌}
+use Rattle.std.specs.Prelude.{◌++◌}
 use Rattle.mc_grammar.specs.Grammar.{Symbol, one}
 use Rattle.mc_grammar.specs.Reading.{Forest, bare, leaf, node, tokens_of}
 use Rattle.mc_grammar.specs.Nest.{level_at}

@@ -19,8 +19,10 @@ pub fn statements_have_one_answer()
         → HasDeepReading statements deeper nest_limit statement tokens h w → ⊥ }
     ensures one_none { (tokens f v h w : List Token)
         → HasNoReading statements deeper nest_limit statement tokens f v
-        → HasNoReading statements deeper nest_limit statement tokens h w → (f ≡ h) × (v ≡ w) }
+        → HasNoReading statements deeper nest_limit statement tokens h w
+        → (f ≡ h) × (v ≡ w) }
     ensures one_deep { (tokens f v h w : List Token)
         → HasDeepReading statements deeper nest_limit statement tokens f v
-        → HasDeepReading statements deeper nest_limit statement tokens h w → (f ≡ h) × (v ≡ w) }
+        → HasDeepReading statements deeper nest_limit statement tokens h w
+        → (f ≡ h) × (v ≡ w) }
 {}

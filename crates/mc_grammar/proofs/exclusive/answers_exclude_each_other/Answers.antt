@@ -1,4 +1,5 @@
-use Rattle.mc_grammar.proofs.Excludes.{reading_or_none, reading_or_deep, none_or_deep, one_none, one_deep}
+use Rattle.mc_grammar.proofs.Excludes.{reading_or_none, reading_or_deep, none_or_deep, one_none}
+use Rattle.mc_grammar.proofs.Excludes.{one_deep}
 use Rattle.mc_grammar.proofs.exclusive.answers_exclude_each_other.Goals as goal
 
 pub returns-clause-reading_or_none : goal.returns-clause-reading_or_none

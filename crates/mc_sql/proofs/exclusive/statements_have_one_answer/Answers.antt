@@ -1,4 +1,5 @@
-use Rattle.mc_grammar.proofs.Excludes.{reading_or_none, reading_or_deep, none_or_deep, one_none, one_deep}
+use Rattle.mc_grammar.proofs.Excludes.{reading_or_none, reading_or_deep, none_or_deep, one_none}
+use Rattle.mc_grammar.proofs.Excludes.{one_deep}
 use Rattle.mc_sql.specs.Rules.{statement}
 use Rattle.mc_sql.specs.Statements.{statements}
 use Rattle.mc_sql.specs.Nest.{deeper, nest_limit}
