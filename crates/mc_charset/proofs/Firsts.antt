@@ -36,7 +36,7 @@ abbrev rows_begin_once : List Row → Bool
 rows_begin_once [] = true
 rows_begin_once (row ∷ rows) = (are_filled row.bytes && begins_once row.bytes) && rows_begin_once rows
 
-digit_below : (r : Range) (rs : List Range) (n : ℕ) → are_filled rs ≡ true → n < count (r ∷ rs) → n / count rs < r.greatest + 1 - r.least
+pub digit_below : (r : Range) (rs : List Range) (n : ℕ) → are_filled rs ≡ true → n < count (r ∷ rs) → n / count rs < r.greatest + 1 - r.least
 digit_below r rs n f l =
     let positive : 0 < count rs = count_positive rs f in
     (div-lt_iff_lt-mul positive).1 (omega (arith, l))

@@ -6,3 +6,5 @@ pub mod WellFormed
 pub mod SetNames
 pub mod CodePoints
 pub mod Firsts
+pub mod Widths
+pub mod Units

@@ -1,4 +1,13 @@
-ghost use Rattle.mc_charset.specs.CharStart.{IsCharStart, HasWidth, is_not_behind};
+ghost use Rattle.mc_charset.specs.CharStart.{
+  IsCharStart,
+  HasWidth,
+  is_not_behind,
+  is_not_high,
+  unit_firsts,
+  width_by_first,
+  width_in_utf8,
+  width_in_utf16,
+};
 ghost use Rattle.mc_charset.specs.Chars.{chars, IsWellFormed};
 ghost use Rattle.std.specs.Prelude.{◌≡◌, ◌<◌, ◌≤◌, ◌^◌, IfSome, filter, length};
 
@@ -55,7 +64,7 @@ fn count_varied(set: Charset, text: &[u8]) -> u32
         Charset::Latin1 => count_each::<Latin1>(text),
         Charset::Ascii => count_each::<Ascii>(text),
         Charset::Ucs2 => count_each::<Ucs2>(text),
-        Charset::Utf16 => count_each::<Utf16>(text),
+        Charset::Utf16 => count_units(text),
         Charset::Utf32 => count_each::<Utf32>(text),
         Charset::Binary => count_each::<Binary>(text),
     }
@@ -79,6 +88,28 @@ fn is_not_behind(byte: u8) -> bool
     ensures { result ≡ is_not_behind byte }
 {
     byte < 0x80 || byte >= 0xC0
+}
+
+/// How many units of two bytes are no high surrogates: in utf16 each character has one of these.
+fn count_units(text: &[u8]) -> u32
+    requires { length text.now < 2 ^ 32 }
+    ensures { result ≡ length (filter is_not_high (unit_firsts text.now)) }
+{
+    let mut count = 0;
+    let mut rest = text;
+    while let [first, _, behind @ ..] = rest {
+        count += u32::from(is_not_high(*first));
+        rest = behind;
+    }
+    count
+}
+
+/// Whether the byte is not one of D8 to DB.
+#[inline(always)]
+fn is_not_high(byte: u8) -> bool
+    ensures { result ≡ is_not_high byte }
+{
+    byte < 0xD8 || byte > 0xDB
 }
 
 /// Counts one character after the other.
@@ -117,17 +148,58 @@ fn start_varied(set: Charset, text: &[u8], k: u32) -> usize
     }
 }
 
-/// Goes over `k` characters of one set, or to the text's end.
+/// Goes over `k` characters of one set, or to the text's end, by the first byte of each.
 fn start_behind<E: Encoding>(text: &[u8], k: u32) -> usize
     requires { IsWellFormed E.set text.now }
     ensures { IsCharStart E.set text.now k result }
 {
     let mut start = 0;
     for passed in 0..k {
-        match next_in::<E>(&text[start..]) {
-            CharAt::Char { len, .. } => start += len,
-            CharAt::End | CharAt::Bad => return start,
+        if start == text.len() {
+            return start;
         }
+        start += width_by_first(E::charset(), text[start]);
     }
     start
+}
+
+/// How many bytes a character has that begins with this byte.
+#[inline(always)]
+fn width_by_first(set: Charset, first: u8) -> usize
+    ensures is { result ≡ width_by_first set first }
+    ensures small { result ≤ 4 }
+{
+    match set {
+        Charset::Latin1 | Charset::Ascii | Charset::Binary => 1,
+        Charset::Ucs2 => 2,
+        Charset::Utf32 => 4,
+        Charset::Utf16 => width_in_utf16(first),
+        Charset::Utf8mb3 | Charset::Utf8mb4 => width_in_utf8(first),
+    }
+}
+
+/// How many bytes a character has in utf16 whose first byte is this one.
+#[inline(always)]
+fn width_in_utf16(first: u8) -> usize
+    ensures is { result ≡ width_in_utf16 first }
+    ensures small { result ≤ 4 }
+{
+    if is_not_high(first) { 2 } else { 4 }
+}
+
+/// How many bytes a character has in UTF-8 whose first byte is this one.
+#[inline(always)]
+fn width_in_utf8(first: u8) -> usize
+    ensures is { result ≡ width_in_utf8 first }
+    ensures small { result ≤ 4 }
+{
+    if first < 0x80 {
+        1
+    } else if first < 0xE0 {
+        2
+    } else if first < 0xF0 {
+        3
+    } else {
+        4
+    }
 }

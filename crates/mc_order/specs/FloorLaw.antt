@@ -5,7 +5,7 @@ use Rattle.std.proofs.Common.{⊎_elim, arith}
 use Rattle.std.specs.Option.{is_some}
 use Rattle.std.proofs.lemmas.Bool.{cases_lt}
 use Rattle.mc_charset.specs.Chars.{spell, code_points}
-use Rattle.mc_charset.proofs.CodePoints.{spelled_code_point}
+use Rattle.mc_charset.specs.CodePoints.{spelled_code_point}
 use Rattle.mc_order.specs.Meaning.{Meaning}
 use Rattle.mc_order.specs.Laws.{HasWeightPerChar, KeepsFloor}
 use Rattle.mc_order.specs.Tails.{has_members}

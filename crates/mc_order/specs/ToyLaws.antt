@@ -8,7 +8,7 @@ use Rattle.std.proofs.lemmas.Bool.Decides.{nat_tests}
 use Rattle.std.proofs.lemmas.List.Elements.{All-nil, All-cons, All-append}
 use Rattle.mc_charset.specs.declared.charset.Charset.TheVariants.{Binary}
 use Rattle.mc_charset.specs.Chars.{spell, spell_all, code_points}
-use Rattle.mc_charset.proofs.CodePoints.{spelled_code_point}
+use Rattle.mc_charset.specs.CodePoints.{spelled_code_point}
 use Rattle.mc_order.specs.Order.{list_order, order_to_end}
 use Rattle.mc_order.specs.Meaning.{separator, flat_list, IsHead, IsSafe, AreCharsOf}
 use Rattle.mc_order.specs.Laws.{greatest_weight, IsWeight, IsCut, KeepsSettings}
