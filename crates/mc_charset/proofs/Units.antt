@@ -8,7 +8,7 @@ use Rattle.mc_charset.specs.Rows.{Range, Row, count, sequence, has_code, spellin
 use Rattle.mc_charset.specs.Tables.{rows}
 use Rattle.mc_charset.specs.Chars.{spell, chars, Spells, IsWellFormed}
 use Rattle.mc_charset.proofs.Rows.{are_filled, and_parts, guard_cases, has_code_parts}
-use Rattle.mc_charset.proofs.Firsts.{digit_below}
+use Rattle.mc_charset.proofs.FirstBytes.{digit_below}
 use Rattle.mc_charset.proofs.Chars.{well_formed_spelled, Spells_nil, Spells_split}
 
 -- how many units of a text are no high surrogates

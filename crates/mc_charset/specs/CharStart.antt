@@ -1,9 +1,7 @@
 -- Where a character of a text begins.
 use Rattle.std.specs.Prelude.{◌≡◌, ℕ, ◌≤◌, ◌||◌, Bool, nat_lt, List, [], ◌∷◌, Some, length, take}
-use Rattle.std.specs.Prelude.{drop, if◌then◌else◌}
+use Rattle.std.specs.Prelude.{drop}
 use Rattle.mc_charset.specs.declared.charset.Charset.{Charset}
-use Rattle.mc_charset.specs.declared.charset.Charset.TheVariants.{Latin1, Ascii, Utf8mb3, Utf8mb4}
-use Rattle.mc_charset.specs.declared.charset.Charset.TheVariants.{Ucs2, Utf16, Utf32, Binary}
 use Rattle.mc_charset.specs.Chars.{spell, chars, Spells}
 use Rattle.mc_charset.specs.Tables.{behind}
 
@@ -32,25 +30,3 @@ abbrev pub unit_firsts : List ℕ → List ℕ
 unit_firsts [] = []
 unit_firsts (first ∷ []) = []
 unit_firsts (first ∷ second ∷ bytes) = first ∷ unit_firsts bytes
-
--- how many bytes a character has in UTF-8, by its first byte: Unicode Standard, Table 3-7
-abbrev pub width_in_utf8 : ℕ → ℕ
-width_in_utf8 first =
-    if nat_lt first 0x80 then 1
-    else if nat_lt first 0xE0 then 2
-    else if nat_lt first 0xF0 then 3 else 4
-
--- how many bytes a character has in utf16, by its first byte: Unicode Standard, Table 3-5
-abbrev pub width_in_utf16 : ℕ → ℕ
-width_in_utf16 first = if is_not_high first then 2 else 4
-
--- how many bytes a character of the set has, by its first byte
-abbrev pub width_by_first : Charset → ℕ → ℕ
-width_by_first Latin1 first = 1
-width_by_first Ascii first = 1
-width_by_first Binary first = 1
-width_by_first Ucs2 first = 2
-width_by_first Utf32 first = 4
-width_by_first Utf16 first = width_in_utf16 first
-width_by_first Utf8mb3 first = width_in_utf8 first
-width_by_first Utf8mb4 first = width_in_utf8 first

@@ -1,5 +1,5 @@
 use Rattle.std.proofs.Common.{◌∙◌}
-use Rattle.mc_charset.proofs.Firsts.{count_utf8}
+use Rattle.mc_charset.proofs.FirstBytes.{count_utf8}
 use Rattle.mc_charset.proofs.Units.{count_utf16}
 use Rattle.mc_charset.proofs.count.count_varied.Goals as goal
 
