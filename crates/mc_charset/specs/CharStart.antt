@@ -1,5 +1,6 @@
 -- Where a character of a text begins.
-use Rattle.std.specs.Prelude.{◌≡◌, ℕ, ◌≤◌, ◌||◌, Bool, nat_lt, List, [], ◌∷◌, Some, length, take}
+use Rattle.std.specs.Prelude.{◌≡◌, ℕ, ◌≤◌, ◌||◌, Bool, nat_lt, List, []}
+use Rattle.std.specs.Prelude.{◌∷◌, Some, length, take}
 use Rattle.std.specs.Prelude.{drop}
 use Rattle.mc_charset.specs.declared.charset.Charset.{Charset}
 use Rattle.mc_charset.specs.Chars.{spell, chars, Spells}

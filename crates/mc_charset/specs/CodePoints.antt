@@ -1,5 +1,6 @@
 -- Each character that a set spells is a code point: Unicode Standard, 2.4.
-use Rattle.std.proofs.Common.{◌≡◌, ℕ, ◌+◌, ◌-◌, ◌<◌, Bool, true, false, cond, ltb, leb, ◌&&◌, List}
+use Rattle.std.proofs.Common.{◌≡◌, ℕ, ◌+◌, ◌-◌, ◌<◌, Bool, true, false, cond}
+use Rattle.std.proofs.Common.{ltb, leb, ◌&&◌, List}
 use Rattle.std.proofs.Common.{[], ◌∷◌, Option, Some, refl, arith}
 use Rattle.std.proofs.lemmas.Bool.Decides.{nat_tests}
 use Rattle.mc_charset.specs.declared.charset.Charset.{Charset}
@@ -18,16 +19,19 @@ both : (a b : Bool) → (a && b) ≡ true → (a ≡ true) × (b ≡ true)
 both true b h = (refl, h)
 both false b h = absurd (cc)
 
-either_row : (t : Bool) (own front : List ℕ) (o : Option (List ℕ)) (P : Type 0) → (t ≡ true → P)
+either_row : (t : Bool) (own front : List ℕ) (o : Option (List ℕ)) (P : Type 0)
+    → (t ≡ true → P)
     → (o ≡ Some front → P) → cond t (Some own) o ≡ Some front → P
 either_row true own front o P f g h = f refl
 either_row false own front o P f g h = g h
 
-below_end : (a m end code : ℕ) → leb (a + m) end ≡ true → (leb a code && ltb code (a + m)) ≡ true
+below_end : (a m end code : ℕ) → leb (a + m) end ≡ true
+    → (leb a code && ltb code (a + m)) ≡ true
     → code < end
 below_end a m end code h k = grind (arith, nat_tests)
 
-spelling_below : (rows : List Row) (end code : ℕ) (front : List ℕ) → codes_end end rows ≡ true
+spelling_below : (rows : List Row) (end code : ℕ) (front : List ℕ)
+    → codes_end end rows ≡ true
     → spelling_in rows code ≡ Some front → code < end
 spelling_below [] end code front h k = absurd (cc)
 spelling_below (row ∷ rows) end code front h k =
@@ -48,7 +52,8 @@ rows_below Utf32 = refl
 rows_below Binary = refl
 
 -- What a set spells is a code point.
-pub spelled_code_point : (set : Charset) (code : ℕ) (front : List ℕ) → spell set code ≡ Some front
+pub spelled_code_point : (set : Charset) (code : ℕ) (front : List ℕ)
+    → spell set code ≡ Some front
     → code < code_points
 unfolding spell
 spelled_code_point set code front h =
