@@ -19,7 +19,7 @@ pub record IsFirst (set : Charset) (text : List ℕ) (code : ℕ) (len : ℕ) : 
 abbrev pub BeginsBadly : Charset → List ℕ → Type 0
 BeginsBadly set text =
     (code : ℕ) (front rest : List ℕ) → spell set code ≡ Some front
-        → text ≢ front ++ rest
+    → text ≢ front ++ rest
 
 -- The answer is the character whose spelling begins the text, or says why there is none.
 abbrev pub IsNextChar : Charset → List ℕ → CharAt → Type 0

@@ -44,7 +44,7 @@ converted_text from to text =
 abbrev pub AllFit : Charset → Charset → List ℕ → Type 0
 AllFit from to text =
     (k : ℕ) → k < length (chars from text)
-        → fits from to (slice_index (chars from text) k) ≡ true
+    → fits from to (slice_index (chars from text) k) ≡ true
 
 -- No character is lost.
 abbrev pub IsLossless : Charset → Charset → List ℕ → Type 0

@@ -206,7 +206,7 @@ not_head x y z xs ys rx e a (inr b) = b
 
 rises_unique : (xs ys : List (List ℕ)) → Rises xs → Rises ys →
     ((z : List ℕ) → Among z xs → Among z ys)
-        → ((z : List ℕ) → Among z ys → Among z xs) → xs ≡ ys
+    → ((z : List ℕ) → Among z ys → Among z xs) → xs ≡ ys
 rises_unique [] [] rx ry there back = refl
 rises_unique [] (y ∷ ys) rx ry there back = absurd (back y (inl refl))
 rises_unique (x ∷ xs) [] rx ry there back = absurd (there x (inl refl))

@@ -37,7 +37,7 @@ IsWeight m weight = (1 ≤ weight) × (weight ≤ greatest_weight) × (m.added �
 abbrev pub KeepsBounds : Meaning → Type 0
 KeepsBounds m =
     (level : ℕ) (codes : List ℕ) → 1 ≤ level → level ≤ m.levels
-        → AreCharsOf m.charset codes →
+    → AreCharsOf m.charset codes →
     All (IsWeight m) (m.level_list level codes)
 
 -- No characters have no weights.

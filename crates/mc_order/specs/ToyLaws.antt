@@ -298,7 +298,7 @@ pub toy_same : (c d : ℕ) →
 toy_same c d = (
   λ e. flat_is c ∙ ap flat_of e ∙ sym (flat_is d),
   λ e. sym (shown_is (folded c)) ∙ ap shown (sym (flat_is c) ∙ e ∙ flat_is d)
-  ∙ shown_is (folded d),
+      ∙ shown_is (folded d),
 )
 
 -- All are safe but d and D.
