@@ -1,5 +1,6 @@
 -- What the files of a catalog's collations give: the meanings of all, or the first refusal.
-use Rattle.std.specs.Prelude.{ℕ, Bool, true, false, List, [], ◌∷◌, ◌++◌, IsTrue, Option, Result, Ok}
+use Rattle.std.specs.Prelude.{ℕ, Bool, true, false, List, [], ◌∷◌, ◌++◌, IsTrue, Option}
+use Rattle.std.specs.Prelude.{Result, Ok}
 use Rattle.std.specs.Prelude.{Err, map, drop, codes}
 use Rattle.std.specs.Result.{result_map_both}
 use Rattle.mc_base.specs.FileOutcome.{file_outcome, file_refusal}
@@ -49,7 +50,8 @@ codes_outcome declared text =
 
 -- What a declared collation means by the files of its kind, or the first refusal among them; a kind
 -- that is not built is refused.
-unfoldable pub declared_outcome : (List ℕ → Option (List ℕ)) → CollDecl → Result Meaning FileRefusal
+unfoldable pub declared_outcome : (List ℕ → Option (List ℕ)) → CollDecl
+    → Result Meaning FileRefusal
 declared_outcome files declared = elim declared.kind [
   | Table8 ↦ result_and_then (bytes_outcome declared) (file_outcome files declared.file)
   | General ↦ result_and_then (codes_outcome declared) (file_outcome files declared.file)
@@ -73,4 +75,5 @@ behind_outcome values results =
 unfoldable pub book_outcome : (List ℕ → Option (List ℕ)) → List CollDecl
     → Result (List Meaning) FileRefusal
 book_outcome files collations =
-    behind_outcome (map bin_meaning built_in) (map (declared_outcome files) (drop built_in_count collations))
+    behind_outcome (map bin_meaning built_in)
+    (map (declared_outcome files) (drop built_in_count collations))

@@ -11,7 +11,7 @@ struct Script {
     written: &'static [u8],
 }
 
-const SCRIPTS: [Script; 26] = [
+const SCRIPTS: [Script; 27] = [
     Script {
         why: "each character in latin1",
         script: b"SELECT HEX(CONVERT('\xc3\xa9\xe2\x82\xac' USING latin1));",
@@ -65,6 +65,12 @@ const SCRIPTS: [Script; 26] = [
         script: b"SELECT HEX(CONVERT(_latin1 X'E4' USING BINARY));",
         status: Status::Done,
         written: b"HEX(CONVERT(_latin1 X'E4' USING BINARY))\nE4\n",
+    },
+    Script {
+        why: "a set's name between backquotes, in either case",
+        script: b"SELECT HEX(CONVERT('a' USING `Latin1`));",
+        status: Status::Done,
+        written: b"HEX(CONVERT('a' USING `Latin1`))\n61\n",
     },
     Script {
         why: "a reserved word names nothing",

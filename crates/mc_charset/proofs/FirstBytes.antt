@@ -13,7 +13,7 @@ use Rattle.mc_charset.proofs.Rows.{are_filled, count_positive, and_parts, guard_
 use Rattle.mc_charset.proofs.Chars.{well_formed_spelled, Spells_nil, Spells_split}
 use Rattle.mc_charset.proofs.WellFormed.{longer}
 
-filter-append : (p : ℕ → Bool) (xs ys : List ℕ) → filter p (xs ++ ys) ≡ filter p xs ++ filter p ys
+pub filter-append : (p : ℕ → Bool) (xs ys : List ℕ) → filter p (xs ++ ys) ≡ filter p xs ++ filter p ys
 filter-append p [] ys = refl
 filter-append p (x ∷ xs) ys = of (p x) (filter-append p xs ys)
   where
@@ -23,20 +23,20 @@ filter-append p (x ∷ xs) ys = of (p x) (filter-append p xs ys)
     of false e = e
 
 -- The bytes of these ranges begin no character.
-abbrev all_behind : List Range → Bool
+abbrev pub all_behind : List Range → Bool
 all_behind [] = true
 all_behind (r ∷ rs) = (leb 0x80 r.least && ltb r.greatest 0xC0) && all_behind rs
 
 -- The bytes of the first range begin a character, and those of the others begin none.
-abbrev begins_once : List Range → Bool
+abbrev pub begins_once : List Range → Bool
 begins_once [] = false
 begins_once (r ∷ rs) = (ltb r.greatest 0x80 || leb 0xC0 r.least) && all_behind rs
 
-abbrev rows_begin_once : List Row → Bool
+abbrev pub rows_begin_once : List Row → Bool
 rows_begin_once [] = true
 rows_begin_once (row ∷ rows) = (are_filled row.bytes && begins_once row.bytes) && rows_begin_once rows
 
-digit_below : (r : Range) (rs : List Range) (n : ℕ) → are_filled rs ≡ true → n < count (r ∷ rs) → n / count rs < r.greatest + 1 - r.least
+pub digit_below : (r : Range) (rs : List Range) (n : ℕ) → are_filled rs ≡ true → n < count (r ∷ rs) → n / count rs < r.greatest + 1 - r.least
 digit_below r rs n f l =
     let positive : 0 < count rs = count_positive rs f in
     (div-lt_iff_lt-mul positive).1 (omega (arith, l))
@@ -44,10 +44,10 @@ digit_below r rs n f l =
 no_begin : (byte least greatest : ℕ) → (leb 0x80 least && ltb greatest 0xC0) ≡ true → least ≤ byte → byte ≤ greatest → is_not_behind byte ≡ false
 no_begin byte least greatest h k l = grind (arith, nat_tests)
 
-begin : (byte least greatest : ℕ) → (ltb greatest 0x80 || leb 0xC0 least) ≡ true → least ≤ byte → byte ≤ greatest → is_not_behind byte ≡ true
+pub begin : (byte least greatest : ℕ) → (ltb greatest 0x80 || leb 0xC0 least) ≡ true → least ≤ byte → byte ≤ greatest → is_not_behind byte ≡ true
 begin byte least greatest h k l = grind (arith, nat_tests)
 
-none_begins : (rs : List Range) (n : ℕ) → are_filled rs ≡ true → all_behind rs ≡ true → n < count rs → filter is_not_behind (sequence rs n) ≡ []
+pub none_begins : (rs : List Range) (n : ℕ) → are_filled rs ≡ true → all_behind rs ≡ true → n < count rs → filter is_not_behind (sequence rs n) ≡ []
 none_begins [] n f h l = refl
 none_begins (r ∷ rs) n f h l =
     let p = and_parts (leb r.least r.greatest) (are_filled rs) f in
