@@ -5,15 +5,22 @@
 //! is in `specs/Values`. `int_text(alloc, -7, Charset::Utf16)` gives the four bytes of `-7` there.
 //!
 //! Read the modules in this order: `value` (values, rows, copies), `answer`, `limit` (the greatest
-//! length of a string), `numbers` (a number as a text).
+//! length of a string), `numbers` (a number as a text), `hexadecimal` (the digits of bytes),
+//! `conversion` (a string in another set), and `laws`, which other crates prove with.
 #![tactic(auto)]
 
 mod answer;
+mod conversion;
+mod hexadecimal;
+mod laws;
 mod limit;
 mod numbers;
 mod value;
 
 pub use answer::Answer;
+pub use conversion::convert_value;
+pub use hexadecimal::{hex_law, push_hex};
+pub use laws::{ascii_law, shown_law};
 pub use limit::{GREATEST_STRING, within_limit};
 pub use numbers::int_text;
 pub use value::{Row, Value, copy_value};
