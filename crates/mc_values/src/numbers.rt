@@ -17,10 +17,6 @@ pub fn int_text(alloc: Global, number: i64, set: Charset) -> Result<Text, NoMemo
     chars_law();
     utf8_law();
     let mut buffer = Buffer::new();
-    convert(
-        alloc,
-        Charset::Utf8mb4,
-        set,
-        buffer.format(number).as_bytes(),
-    )
+    let digits = buffer.format(number);
+    convert(alloc, Charset::Utf8mb4, set, digits.as_bytes())
 }
