@@ -1,6 +1,7 @@
 -- Headers and texts with the escapes under which they are written: this engine's own convention,
 -- with the escapes of the MySQL 8.0 manual, 9.1.1.
-use Rattle.std.specs.Prelude.{ℕ, Bool, ◌||◌, List, [], ◌∷◌, ◌==◌, if◌then◌else◌, codes}
+use Rattle.std.specs.Prelude.{ℕ, Bool, ◌||◌, List, [], ◌∷◌, ◌==◌, codes}
+use Rattle.std.specs.Prelude.{if◌then◌else◌}
 use Rattle.std.specs.List.{flat_map}
 
 -- the bytes NUL, TAB, LF and the backslash

@@ -1,9 +1,9 @@
 ghost use Rattle.mc_print.specs.Cells.{cell};
-ghost use Rattle.mc_print.specs.Escapes.{as_written, tab};
-ghost use Rattle.mc_print.specs.Lines.{answer_text, line, tabbed};
+ghost use Rattle.mc_print.specs.Escapes.{as_written};
+ghost use Rattle.mc_print.specs.Lines.{answer_text, behind_tab, row_line, tabbed};
 ghost use Rattle.mc_values.specs.Values.{IsTextOfSet};
 ghost use Rattle.std.specs.List.{flat_map};
-ghost use Rattle.std.specs.Prelude.{◌≡◌, ◌∷◌, ◌++◌, All, IfOk, OnOk};
+ghost use Rattle.std.specs.Prelude.{◌≡◌, ◌++◌, All, IfOk, OnOk};
 
 use crate::cell::push_cell;
 use crate::escape::push_escaped;
@@ -77,7 +77,7 @@ fn push_header(out: &mut Text, names: &[Text]) -> Result<(), NoMemory>
 /// Appends a line for each row.
 fn push_rows(alloc: Global, out: &mut Text, rows: &[Row]) -> Result<(), NoMemory>
     requires { All (All IsTextOfSet) rows.now }
-    ensures { OnOk result (out.new ≡ out.old ++ flat_map (λ row. line (tabbed cell row)) rows.now) }
+    ensures { OnOk result (out.new ≡ out.old ++ flat_map row_line rows.now) }
 {
     for row in rows {
         push_row(alloc, out, row.as_slice())?;
@@ -101,7 +101,7 @@ fn push_row(alloc: Global, out: &mut Text, row: &[Value]) -> Result<(), NoMemory
 /// Appends values, a TAB before each.
 fn push_more(alloc: Global, out: &mut Text, values: &[Value]) -> Result<(), NoMemory>
     requires { All IsTextOfSet values.now }
-    ensures { OnOk result (out.new ≡ out.old ++ flat_map (λ next. tab ∷ cell next) values.now) }
+    ensures { OnOk result (out.new ≡ out.old ++ flat_map (behind_tab cell) values.now) }
 {
     for value in values {
         out.push(b'\t')?;

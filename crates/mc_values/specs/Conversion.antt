@@ -1,5 +1,6 @@
 -- The value of CONVERT and of CAST to a set: MySQL 8.0 manual, 12.10.
-use Rattle.std.specs.Prelude.{ℕ, not, ◌&&◌, List, Option, Some, option_and_then, if◌then◌else◌}
+use Rattle.std.specs.Prelude.{ℕ, not, ◌&&◌, List, Option, Some, option_and_then}
+use Rattle.std.specs.Prelude.{if◌then◌else◌}
 use Rattle.mc_charset.specs.declared.charset.Charset.{Charset}
 use Rattle.mc_convert.specs.Conversion.{converted_text, is_binary, taken_for}
 use Rattle.mc_values.specs.Values.{within_limit}

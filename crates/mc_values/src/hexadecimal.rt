@@ -1,5 +1,14 @@
 ghost use Rattle.mc_values.specs.Hexadecimal.{hex_digit, hex_digits, hex_pair};
-ghost use Rattle.std.specs.Prelude.{◌≡◌, ◌<◌, ◌++◌, IsUtf8, OnErr, OnOk, length, take};
+ghost use Rattle.std.specs.Prelude.{
+  ◌≡◌,
+  ◌<◌,
+  ◌++◌,
+  IsUtf8,
+  OnErr,
+  OnOk,
+  length,
+  take,
+};
 
 use mc_base::{NoMemory, Text};
 
