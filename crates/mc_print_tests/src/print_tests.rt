@@ -1,6 +1,6 @@
 ghost use Rattle.mc_charset.specs.Chars.{IsWellFormed};
 ghost use Rattle.mc_values.specs.Values.{IsTextOfSet};
-ghost use Rattle.std.specs.Prelude.{All, IfOk};
+ghost use Rattle.std.specs.Prelude.{◌≡◌, ◌∷◌, [], All, IfOk};
 
 use mc_base::{List, NoMemory, Refusal, Text};
 use mc_charset::{Charset, is_well_formed};
@@ -94,22 +94,32 @@ fn strings(rt: HostRuntime) {
     }
 }
 
+/// The headers of two columns.
+fn two_headers(alloc: Global) -> Result<List<Text>, NoMemory> {
+    let mut header = List::new(alloc);
+    header.push(Text::from_slice(alloc, b"a\tb")?)?;
+    header.push(Text::from_slice(alloc, b"c")?)?;
+    Ok(header)
+}
+
+/// A list of two members.
+fn two<T: Drop>(alloc: Global, first: T, second: T) -> Result<List<T>, NoMemory>
+    ensures { IfOk result (λ list. list ≡ first ∷ second ∷ []) }
+{
+    let mut list = List::new(alloc);
+    list.push(first)?;
+    list.push(second)?;
+    Ok(list)
+}
+
 /// An answer of two columns and two rows: the numbers at both ends, and NULLs.
 fn numbers(alloc: Global) -> Result<Answer, NoMemory>
     ensures { IfOk result (λ answer. All (All IsTextOfSet) answer.rows) }
 {
-    let mut header = List::new(alloc);
-    header.push(Text::from_slice(alloc, b"a\tb")?)?;
-    header.push(Text::from_slice(alloc, b"c")?)?;
-    let mut first = List::new(alloc);
-    first.push(Value::Int(i64::MIN))?;
-    first.push(Value::Null)?;
-    let mut second = List::new(alloc);
-    second.push(Value::Null)?;
-    second.push(Value::Int(i64::MAX))?;
-    let mut rows = List::new(alloc);
-    rows.push(first)?;
-    rows.push(second)?;
+    let header = two_headers(alloc)?;
+    let first = two(alloc, Value::Int(i64::MIN), Value::Null)?;
+    let second = two(alloc, Value::Null, Value::Int(i64::MAX))?;
+    let rows = two(alloc, first, second)?;
     Ok(Answer { header, rows })
 }
 
