@@ -1,0 +1,44 @@
+-- How many literals items have.
+use Rattle.std.proofs.Common.{◌≡◌, ℕ, ◌+◌, ◌≤◌, ◌⊎◌, inl, inr, List, [], ◌∷◌, refl, min, arith}
+use Rattle.mc_like.specs.declared.item.Item.{Item}
+use Rattle.mc_like.specs.declared.item.Item.TheVariants.{Literal, One, Any}
+use Rattle.mc_like.specs.Fits.{last_count}
+use Rattle.mc_like.specs.Items.{literal_count}
+
+pub literal_count-none : literal_count [] ≡ 0
+unfolding literal_count
+literal_count-none = refl
+
+pub literal_count-literal : (code : ℕ) (items : List Item) →
+    literal_count (Literal code ∷ items) ≡ 1 + literal_count items
+unfolding literal_count
+literal_count-literal code items = refl
+
+pub literal_count-one : (items : List Item) → literal_count (One ∷ items) ≡ literal_count items
+unfolding literal_count
+literal_count-one items = refl
+
+pub literal_count-any : (items : List Item) → literal_count (Any ∷ items) ≡ literal_count items
+unfolding literal_count
+literal_count-any items = refl
+
+pub literal_count-cons : (item : Item) (items : List Item) →
+    literal_count (item ∷ items) ≡ literal_count (item ∷ []) + literal_count items
+unfolding literal_count
+literal_count-cons (Literal code) items = omega arith
+literal_count-cons One items = omega arith
+literal_count-cons Any items = omega arith
+
+pub no_literal : (item : Item) → (item ≡ One) ⊎ (item ≡ Any) → literal_count (item ∷ []) ≡ 0
+unfolding literal_count
+no_literal (Literal code) (inl e) = cc
+no_literal (Literal code) (inr e) = cc
+no_literal One e = refl
+no_literal Any e = refl
+
+pub ruleset counts = (
+  literal_count-none,
+  literal_count-literal,
+  literal_count-one,
+  literal_count-any,
+)

@@ -1,0 +1,4 @@
+pub mod Items
+pub mod Counts
+pub mod Like
+pub mod Passes

@@ -1,0 +1,1 @@
+-- What LIKE and the reading of a pattern keep.

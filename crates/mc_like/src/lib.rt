@@ -1,0 +1,10 @@
+//! LIKE.
+#![tactic(auto)]
+
+mod fit;
+mod item;
+mod pattern;
+mod read;
+
+pub use item::Item;
+pub use pattern::{Pattern, compile};
