@@ -36,6 +36,12 @@ no_literal (Literal code) (inr e) = cc
 no_literal One e = refl
 no_literal Any e = refl
 
+-- What a count of steps has at least, one item further.
+pub at_least_more : (first all old left new here more last : ℕ) →
+    min (first + all) last ≤ min (old + left) last → left ≡ here + more →
+    min (old + here) last ≤ new → min (first + all) last ≤ min (new + more) last
+at_least_more first all old left new here more last h e t = omega arith
+
 pub ruleset counts = (
   literal_count-none,
   literal_count-literal,

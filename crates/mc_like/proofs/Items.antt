@@ -1,10 +1,10 @@
 -- The reading of a pattern, character by character.
-use Rattle.std.proofs.Common.{◌≡◌, ℕ, Bool, true, false, IsTrue, if◌then◌else◌, List, [], ◌∷◌, ◌++◌, Option, Some, None, refl, ap, ◌∙◌, sym, subst, arith}
+use Rattle.std.proofs.Common.{◌≡◌, ℕ, Bool, true, false, IsTrue, if◌then◌else◌, List, [], ◌∷◌, ◌++◌, append_assoc, append-nil, length, Option, Some, None, refl, ap, ◌∙◌, sym, subst, arith}
 use Rattle.std.specs.Option.{is_some}
 use Rattle.std.proofs.lemmas.List.Elements.{All-head, All-tail}
 use Rattle.mc_charset.specs.declared.charset.Charset.{Charset}
 use Rattle.mc_charset.specs.Chars.{spell, spell_all, chars}
-use Rattle.mc_order.specs.Meaning.{AreCharsOf}
+use Rattle.mc_order.specs.Meaning.{AreCharsOf, IsCharOf}
 use Rattle.mc_like.specs.declared.item.Item.{Item}
 use Rattle.mc_like.specs.declared.item.Item.TheVariants.{Literal, One, Any}
 use Rattle.mc_like.specs.Items.{item_of, is_escape, items_of, literal_front}
@@ -77,6 +77,14 @@ reads_last set escape text rest code e h none = record {
   shorter = h.shorter;
 }
 
+some_spelling : (set : Charset) (code : ℕ) (spelling : Option (List ℕ)) →
+    spell set code ≡ spelling → IsTrue (is_some spelling) → IsCharOf set code
+some_spelling set code (Some text) e h = (text, e)
+some_spelling set code None e h = absurd (let never : ⊥ = cc in never)
+
+pub is_char : (set : Charset) (code : ℕ) → IsTrue (is_some (spell set code)) → IsCharOf set code
+is_char set code h = some_spelling set code (spell set code) refl h
+
 -- The literals in front of items of a set are characters of it.
 front_of_set-cons : (set : Charset) (code : ℕ) (spelling : Option (List ℕ)) (codes : List ℕ) →
     spell set code ≡ spelling → IsTrue (is_some spelling) → AreCharsOf set codes →
@@ -117,3 +125,19 @@ pub ruleset fronts = (
   literal_front-literal,
   literal_front-other,
 )
+
+-- What stands for no items at the end of a loop.
+pub front_ends : (out all : List ℕ) (left : List Item) → out ++ literal_front left ≡ all →
+    literal_front left ≡ [] → out ≡ all
+front_ends out all left e none = sym (append-nil out) ∙ ap (λ t. out ++ t) (sym none) ∙ e
+
+pub front_goes_on : (out : List ℕ) (left : List Item) (code : ℕ) (more : List Item) →
+    left ≡ Literal code ∷ more →
+    (out ++ code ∷ []) ++ literal_front more ≡ out ++ literal_front left
+front_goes_on out left code more e =
+    append_assoc out (code ∷ []) (literal_front more)
+    ∙ ap (λ t. out ++ t) (sym (ap literal_front e ∙ literal_front-literal code more))
+
+pub no_items : (left : List Item) → length left ≡ 0 → left ≡ []
+no_items [] e = refl
+no_items (item ∷ left) e = absurd (omega arith)

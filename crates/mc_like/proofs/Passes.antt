@@ -1,11 +1,6 @@
 -- What it means to have gone over items, one character each.
 use Rattle.std.proofs.Common.{◌≡◌, ℕ, zero, suc, ◌+◌, ◌≤◌, ◌↔◌, List, [], ◌∷◌, length, drop, refl, ap, ◌∙◌, sym, subst, arith}
 use Rattle.std.proofs.Math.Seq.{drop-nil}
-use Rattle.mc_charset.specs.declared.charset.Charset.{Charset}
-use Rattle.mc_charset.specs.declared.char_at.CharAt.{CharAt}
-use Rattle.mc_charset.specs.declared.char_at.CharAt.TheVariants.{Char, End, Bad}
-use Rattle.mc_charset.specs.Chars.{chars}
-use Rattle.mc_charset.specs.NextChar.{HeadsChars}
 use Rattle.mc_order.specs.Meaning.{Meaning}
 use Rattle.mc_like.specs.declared.item.Item.{Item}
 use Rattle.mc_like.specs.declared.item.Item.TheVariants.{Literal, One, Any}
@@ -96,10 +91,3 @@ pub at_both_ends : (m : Meaning) (items left : List Item) (codes rest : List ℕ
     Passes m items left codes rest → left ≡ [] → rest ≡ [] → Like m items codes
 at_both_ends m items left codes rest p' e f =
     let p = moved m items left [] codes rest [] e f p' in p.back (Like-end m)
-
--- Where no character begins the text, it has none.
-pub no_char : (set : Charset) (text : List ℕ) (answer : CharAt) → HeadsChars set text answer →
-    ((code len : ℕ) → answer ≡ Char code len → ⊥) → chars set text ≡ []
-no_char set text (Char code len) heads other = absurd (other code len refl)
-no_char set text End heads other = heads.0
-no_char set text Bad heads other = heads.0

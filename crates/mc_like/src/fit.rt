@@ -1,10 +1,11 @@
-ghost use Rattle.mc_charset.specs.Chars.{chars, spell};
+ghost use Rattle.mc_charset.specs.Chars.{chars};
 ghost use Rattle.mc_like.specs.Fits.{IsFit, Takes, Ticks, LeavesOfSet, last_count};
 ghost use Rattle.mc_like.specs.Items.{literal_count};
 ghost use Rattle.mc_like.specs.Pattern.{AreOfSet, is_of_set};
+ghost use Rattle.mc_like.specs.Read.{HasFirst};
 ghost use Rattle.mc_order.specs.Consequences.{IsSameChar};
 ghost use Rattle.mc_order.specs.Meaning.{IsCharOf};
-ghost use Rattle.std.specs.Prelude.{◌≡◌, ◌↔◌, ◌+◌, ◌≤◌, ◌∷◌, [], IsTrue, min};
+ghost use Rattle.std.specs.Prelude.{◌≡◌, ◌↔◌, ◌+◌, ◌≤◌, ◌∷◌, [], IsTrue, MatchOption, min};
 
 use crate::Item;
 use mc_base::Steps;
@@ -43,18 +44,30 @@ pub(crate) fn fit_front<'a, C: Collation, E: Encoding, W>(
         if let Item::Any = item {
             return Fit::Gap { items: more, rest };
         }
-        let CharAt::Char { code, len } = next_in::<E>(rest) else {
+        let Some((code, behind)) = first_in::<E>(rest) else {
             return Fit::Short;
         };
         if !is_like(collation, *item, code, work) {
             return Fit::Misfit;
         }
         left = more;
-        rest = &rest[len..];
+        rest = behind;
     }
-    match next_in::<E>(rest) {
-        CharAt::Char { .. } => Fit::Misfit,
-        CharAt::End | CharAt::Bad => Fit::Whole,
+    match first_in::<E>(rest) {
+        Some(_) => Fit::Misfit,
+        None => Fit::Whole,
+    }
+}
+
+/// The first character of a text, and the text behind it.
+#[inline(always)]
+pub(crate) fn first_in<E: Encoding>(text: &[u8]) -> Option<(u32, &[u8])>
+    ensures { MatchOption result (chars E.set text.now ≡ [])
+        (λ read. HasFirst E.set text.now read.1.now read.0) }
+{
+    match next_in::<E>(text) {
+        CharAt::Char { code, len } => Some((code, &text[len..])),
+        CharAt::End | CharAt::Bad => None,
     }
 }
 

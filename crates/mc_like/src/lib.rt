@@ -3,6 +3,7 @@
 
 mod fit;
 mod item;
+mod matching;
 mod pattern;
 mod read;
 

@@ -1,0 +1,74 @@
+ghost use Rattle.mc_charset.specs.Chars.{chars};
+ghost use Rattle.mc_like.specs.Fits.{last_count};
+ghost use Rattle.mc_like.specs.Items.{literal_count};
+ghost use Rattle.mc_like.specs.Like.{Like};
+ghost use Rattle.mc_like.specs.Pattern.{AreOfSet};
+ghost use Rattle.std.specs.Prelude.{◌≡◌, ◌↔◌, ◌+◌, ◌*◌, ◌≤◌, ◌∷◌, IsTrue, length, min};
+
+use crate::Item;
+use crate::fit::{Fit, first_in, fit_front};
+use mc_base::Steps;
+use mc_charset::Encoding;
+use mc_order::Collation;
+
+/// Whether a text matches the items.
+pub(crate) fn is_match<C: Collation, E: Encoding, W>(
+    collation: &C,
+    items: &[Item],
+    text: &[u8],
+    work: &mut Steps<W>,
+) -> bool
+    requires same_set { E.set ≡ (C.meaning collation.now).charset }
+    requires of_set { AreOfSet E.set items.now }
+    ensures exact { IsTrue result ↔ Like (C.meaning collation.now) items.now (chars E.set text.now) }
+    ensures at_most { let n = length (chars E.set text.now) in let m = length items.now in
+        work.new ≤ work.old + (n + 1) * (m + 1) }
+    ensures each_literal { IsTrue result →
+        min (work.old + literal_count items.now) last_count ≤ work.new }
+{
+    match fit_front::<C, E, W>(collation, items, text, work) {
+        Fit::Whole => true,
+        Fit::Misfit | Fit::Short => false,
+        Fit::Gap { items, rest } => is_match_behind::<C, E, W>(collation, items, rest, work),
+    }
+}
+
+/// Whether a text matches a `%` and these items behind it.
+// The place behind the last `%` is the only one to return to: what was matched up to that `%` has
+// as many characters at each place, so the first place leaves the most text behind it, and the `%`
+// may pass over what another one would have left out.
+fn is_match_behind<C: Collation, E: Encoding, W>(
+    collation: &C,
+    items: &[Item],
+    text: &[u8],
+    work: &mut Steps<W>,
+) -> bool
+    requires same_set { E.set ≡ (C.meaning collation.now).charset }
+    requires of_set { AreOfSet E.set items.now }
+    ensures exact { IsTrue result ↔
+        Like (C.meaning collation.now) (Item.Any ∷ items.now) (chars E.set text.now) }
+    ensures at_most { let n = length (chars E.set text.now) in let m = length items.now in
+        work.new ≤ work.old + n * (m + 1) + m }
+    ensures each_literal { IsTrue result →
+        min (work.old + literal_count items.now) last_count ≤ work.new }
+{
+    let mut items = items;
+    let mut rest = text;
+    while !items.is_empty() {
+        match fit_front::<C, E, W>(collation, items, rest, work) {
+            Fit::Whole => return true,
+            Fit::Short => return false,
+            Fit::Gap { items: more, rest: behind } => {
+                items = more;
+                rest = behind;
+            }
+            Fit::Misfit => {
+                let Some((_, behind)) = first_in::<E>(rest) else {
+                    return false;
+                };
+                rest = behind;
+            }
+        }
+    }
+    true
+}
