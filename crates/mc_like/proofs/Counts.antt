@@ -1,5 +1,5 @@
 -- How many literals items have.
-use Rattle.std.proofs.Common.{◌≡◌, ℕ, ◌+◌, ◌≤◌, ◌⊎◌, inl, inr, List, [], ◌∷◌, refl, min, arith}
+use Rattle.std.proofs.Common.{◌≡◌, ℕ, suc, ◌+◌, ◌*◌, ◌≤◌, subst, ◌⊎◌, inl, inr, List, [], ◌∷◌, refl, min, arith}
 use Rattle.mc_like.specs.declared.item.Item.{Item}
 use Rattle.mc_like.specs.declared.item.Item.TheVariants.{Literal, One, Any}
 use Rattle.mc_like.specs.Fits.{last_count}
@@ -41,6 +41,15 @@ pub at_least_more : (first all old left new here more last : ℕ) →
     min (first + all) last ≤ min (old + left) last → left ≡ here + more →
     min (old + here) last ≤ new → min (first + all) last ≤ min (new + more) last
 at_least_more first all old left new here more last h e t = omega arith
+
+-- What a search has at most, one character further.
+pub at_most_misfit : (first old new all rest behind items most : ℕ) → rest ≡ suc behind →
+    new ≤ old + items → items ≤ most →
+    old + rest * (most + 1) + items ≤ first + all * (most + 1) + most →
+    new + behind * (most + 1) + items ≤ first + all * (most + 1) + most
+at_most_misfit first old new all rest behind items most e t s h =
+    let one = subst (λ r. old + r * (most + 1) + items ≤ first + all * (most + 1) + most) e h in
+    omega arith
 
 pub ruleset counts = (
   literal_count-none,

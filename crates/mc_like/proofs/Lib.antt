@@ -2,3 +2,4 @@ pub mod Items
 pub mod Counts
 pub mod Like
 pub mod Passes
+pub mod Fits

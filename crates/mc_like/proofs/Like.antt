@@ -86,20 +86,28 @@ any_alone m codes =
     (subst (Like m []) (sym (drop_all (length codes) codes (omega arith))) (Like-end m))
 
 -- Where the rest does not match here, a `%` takes one character more.
-pub any_one_more : (m : Meaning) (items : List Item) (code : ℕ) (codes : List ℕ) →
-    (Like m items (code ∷ codes) → ⊥) → Like m (Any ∷ items) (code ∷ codes) →
-    Like m (Any ∷ items) codes
-any_one_more m items code codes never h =
-    let some = Like-any m items (code ∷ codes) h in one_more some.0 some.1
+pub any_goes_on : (m : Meaning) (items : List Item) (codes behind : List ℕ) (code : ℕ) →
+    codes ≡ code ∷ behind → (Like m items codes → ⊥) →
+    Like m (Any ∷ items) behind ↔ Like m (Any ∷ items) codes
+any_goes_on m items codes behind code e never = (
+  λ h. let some = Like-any m items behind h in
+  Like-any_back m items codes (suc some.0)
+  (subst (λ (t : List ℕ). Like m items (drop (suc some.0) t)) (sym e) some.1),
+  λ h. let some = Like-any m items codes h in one_more some.0 some.1,
+)
   where
-    one_more : (cut : ℕ) → Like m items (drop cut (code ∷ codes)) → Like m (Any ∷ items) codes
+    one_more : (cut : ℕ) → Like m items (drop cut codes) → Like m (Any ∷ items) behind
     one_more zero h = absurd (never h)
-    one_more (suc cut) h = Like-any_back m items codes cut h
+    one_more (suc cut) h =
+        Like-any_back m items behind cut
+        (subst (λ (t : List ℕ). Like m items (drop (suc cut) t)) e h)
 
-pub any_at_end : (m : Meaning) (items : List Item) → (Like m items [] → ⊥) →
-    Like m (Any ∷ items) [] → ⊥
-any_at_end m items never h =
-    let some = Like-any m items [] h in never (subst (Like m items) (drop-nil some.0) some.1)
+pub any_nowhere : (m : Meaning) (items : List Item) (codes : List ℕ) → codes ≡ [] →
+    (Like m items codes → ⊥) → Like m (Any ∷ items) codes → ⊥
+any_nowhere m items codes e never h =
+    let some = Like-any m items codes h in
+    let none : drop some.0 codes ≡ codes = ap (drop some.0) e ∙ drop-nil some.0 ∙ sym e in
+    never (subst (Like m items) none some.1)
 
 -- `_` takes each character, and so does `%`.
 pub takes_each : (m : Meaning) (item : Item) (code : ℕ) → (item ≡ One) ⊎ (item ≡ Any) →

@@ -40,7 +40,7 @@ IsFit m set items codes (Gap more rest) = Reaches m items more.now codes (chars 
 -- The counter went on by as many ticks as there are items at most, and by as many as there are
 -- literals at least, unless it stands at its end; up to a `%`, so much less.
 abbrev pub Ticks : List Item → ℕ → ℕ → Fit → Type 0
-Ticks items old new Misfit = new ≤ old + length items
+Ticks items old new Misfit = (new ≤ old + length items) × (min old last_count ≤ new)
 Ticks items old new Short = new ≤ old + length items
 Ticks items old new Whole =
     (new ≤ old + length items) × (min (old + literal_count items) last_count ≤ new)

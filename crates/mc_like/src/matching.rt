@@ -8,11 +8,42 @@ ghost use Rattle.std.specs.Prelude.{◌≡◌, ◌↔◌, ◌+◌, ◌*◌, ◌�
 use crate::Item;
 use crate::fit::{Fit, first_in, fit_front};
 use mc_base::Steps;
-use mc_charset::Encoding;
+use mc_charset::{
+    Ascii, Binary, Charset, Encoding, Latin1, Ucs2, Utf8mb3, Utf8mb4, Utf16, Utf32,
+};
 use mc_order::Collation;
 
+/// Whether a text of the set matches the items.
+// The set is given as a type from here on, so that nothing is asked of it at each character.
+pub(crate) fn is_match_in<C: Collation, W>(
+    set: Charset,
+    collation: &C,
+    items: &[Item],
+    text: &[u8],
+    work: &mut Steps<W>,
+) -> bool
+    requires same_set { set ≡ (C.meaning collation.now).charset }
+    requires of_set { AreOfSet set items.now }
+    ensures exact { IsTrue result ↔ Like (C.meaning collation.now) items.now (chars set text.now) }
+    ensures at_most { let n = length (chars set text.now) in let m = length items.now in
+        work.new ≤ work.old + (n + 1) * (m + 1) }
+    ensures each_literal { IsTrue result →
+        min (work.old + literal_count items.now) last_count ≤ work.new }
+{
+    match set {
+        Charset::Latin1 => is_match::<C, Latin1, W>(collation, items, text, work),
+        Charset::Ascii => is_match::<C, Ascii, W>(collation, items, text, work),
+        Charset::Utf8mb3 => is_match::<C, Utf8mb3, W>(collation, items, text, work),
+        Charset::Utf8mb4 => is_match::<C, Utf8mb4, W>(collation, items, text, work),
+        Charset::Ucs2 => is_match::<C, Ucs2, W>(collation, items, text, work),
+        Charset::Utf16 => is_match::<C, Utf16, W>(collation, items, text, work),
+        Charset::Utf32 => is_match::<C, Utf32, W>(collation, items, text, work),
+        Charset::Binary => is_match::<C, Binary, W>(collation, items, text, work),
+    }
+}
+
 /// Whether a text matches the items.
-pub(crate) fn is_match<C: Collation, E: Encoding, W>(
+fn is_match<C: Collation, E: Encoding, W>(
     collation: &C,
     items: &[Item],
     text: &[u8],

@@ -7,9 +7,11 @@ ghost use Rattle.std.specs.Prelude.{◌≡◌, ◌↔◌, ◌+◌, ◌-◌, ◌*
 ghost use Rattle.std.specs.Prelude.{length, min};
 
 use crate::Item;
+use crate::matching::is_match_in;
 use crate::read::put_items;
-use mc_base::{List, NoMemory, Weights};
+use mc_base::{List, NoMemory, Steps, Weights};
 use mc_charset::Charset;
+use mc_order::Collation;
 use std::alloc::Global;
 use std::marker::Model;
 
@@ -78,5 +80,27 @@ impl Pattern {
         ensures of_set { AreCharsOf self.now.charset result.now }
     {
         self.literal_prefix.as_slice()
+    }
+    /// Whether a text matches, character by character: a literal matches one character that has
+    /// its flat list under the collation, and no padding counts. Each comparison of two characters
+    /// ticks once, so that there are at most `(n + 1) * (m + 1)` ticks for `n` characters and `m`
+    /// items. It takes no memory. MySQL 8.0 manual, 14.8.1, LIKE.
+    pub fn matches<C: Collation, W>(
+        &self,
+        collation: &C,
+        text: &[u8],
+        work: &mut Steps<W>,
+    ) -> bool
+        requires same_set { (C.meaning collation.now).charset ≡ self.now.charset }
+        requires well_formed { IsWellFormed self.now.charset text.now }
+        ensures exact { let codes = chars self.now.charset text.now in
+            IsTrue result ↔ Like (C.meaning collation.now) self.now.items codes }
+        ensures at_most { let n = length (chars self.now.charset text.now) in
+            let m = length self.now.items in
+            work.new ≤ work.old + (n + 1) * (m + 1) }
+        ensures each_literal { IsTrue result →
+            min (work.old + literal_count self.now.items) (2 ^ 64 - 1) ≤ work.new }
+    {
+        is_match_in(self.charset, collation, self.items.as_slice(), text, work)
     }
 }

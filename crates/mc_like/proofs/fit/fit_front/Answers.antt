@@ -69,7 +69,10 @@ returns-then-not-is_like g c = record {
     c.in-Some-first_in.code c.loop-item.invariant.0 c.in-Some.ensures.cases.0
     c.in-Some-first_in.ensures.first (record { other = c.in_default-item.not-Any })
     (λ takes. let never : false ≡ true = c.if-not-is_like.ensures.takes.1 takes in cc);
-  ticks = omega (arith, c.loop-item.invariant.2, c.in-Some.ensures.cases.1, c.is_like.ensures.at_most);
+  ticks = (
+    omega (arith, c.loop-item.invariant.2, c.in-Some.ensures.cases.1, c.is_like.ensures.at_most),
+    omega (arith, c.loop-item.invariant.4, c.is_like.ensures.at_least)
+  );
   left_of_set = tt;
 }
 
@@ -88,6 +91,7 @@ loop-item-preserved g c =
         c.in-Some.more.now c.loop-item.left.now cases.0 c.loop-item.invariant.1,
       omega (arith, c.loop-item.invariant.2, cases.1, c.is_like.ensures.at_most),
       at_least_more _ _ _ _ _ _ _ _ c.loop-item.invariant.3 count c.is_like.ensures.at_least,
+      omega (arith, c.loop-item.invariant.4, c.is_like.ensures.at_least),
     )
 
 pub returns-in-Some-first_in-2-clause-fit : goal.returns-in-Some-first_in-2-clause-fit

@@ -15,6 +15,7 @@ invariant-loop-item g l =
     × (l.work + length l.left ≤ l.fn.work + length l.fn.items)
     × (min (l.fn.work + literal_count l.fn.items) last_count
         ≤ min (l.work + literal_count l.left) last_count)
+    × (min l.fn.work last_count ≤ l.work)
 
 abbrev pub decreases-loop-item : goal.decreases-loop-item
 decreases-loop-item g l = length l.left
