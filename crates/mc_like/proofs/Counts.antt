@@ -1,5 +1,6 @@
 -- How many literals items have.
-use Rattle.std.proofs.Common.{◌≡◌, ℕ, suc, ◌+◌, ◌*◌, ◌≤◌, subst, ◌⊎◌, inl, inr, List, [], ◌∷◌, refl, min, arith}
+use Rattle.std.proofs.Common.{◌≡◌, ℕ, suc, true, ◌==◌, ◌+◌, ◌*◌, ◌≤◌, subst, ◌⊎◌, inl, inr, List, [], ◌∷◌, refl, min, arith}
+use Rattle.std.proofs.lemmas.Bool.Decides.{nat_tests}
 use Rattle.mc_like.specs.declared.item.Item.{Item}
 use Rattle.mc_like.specs.declared.item.Item.TheVariants.{Literal, One, Any}
 use Rattle.mc_like.specs.Fits.{last_count}
@@ -50,6 +51,9 @@ pub at_most_misfit : (first old new all rest behind items most : ℕ) → rest �
 at_most_misfit first old new all rest behind items most e t s h =
     let one = subst (λ r. old + r * (most + 1) + items ≤ first + all * (most + 1) + most) e h in
     omega arith
+
+pub is_zero : (n : ℕ) → true ≡ (n == 0) → n ≡ 0
+is_zero n e = grind (arith, nat_tests)
 
 pub ruleset counts = (
   literal_count-none,

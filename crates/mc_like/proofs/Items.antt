@@ -22,7 +22,7 @@ items_of-plain escape code [] e =
     ap (λ b. (if b then Literal code else item_of code) ∷ []) e
 items_of-plain escape code (next ∷ codes) e =
     ap (λ b. if b then Literal next ∷ items_of escape codes
-        else item_of code ∷ items_of escape (next ∷ codes)) e
+    else item_of code ∷ items_of escape (next ∷ codes)) e
 
 pub items_of-escaped : (escape : Option ℕ) (code next : ℕ) (codes : List ℕ) →
     is_escape escape code ≡ true →
@@ -30,7 +30,7 @@ pub items_of-escaped : (escape : Option ℕ) (code next : ℕ) (codes : List ℕ
 unfolding items_of
 items_of-escaped escape code next codes e =
     ap (λ b. if b then Literal next ∷ items_of escape codes
-        else item_of code ∷ items_of escape (next ∷ codes)) e
+    else item_of code ∷ items_of escape (next ∷ codes)) e
 
 pub items_of-last : (escape : Option ℕ) (code : ℕ) → is_escape escape code ≡ true →
     items_of escape (code ∷ []) ≡ Literal code ∷ []
@@ -61,7 +61,7 @@ pub reads_escaped : (set : Charset) (escape : Option ℕ) (text rest behind : Li
     HasFirst set rest behind next → ReadsItem set escape text behind (Literal next)
 reads_escaped set escape text rest behind code next e h n = record {
   first = ap (items_of escape) (h.first ∙ ap (λ t. code ∷ t) n.first)
-    ∙ items_of-escaped escape code next (chars set behind) e;
+      ∙ items_of-escaped escape code next (chars set behind) e;
   of_set = n.of_set;
   shorter = omega (arith, h.shorter, n.shorter);
 }
@@ -71,8 +71,8 @@ pub reads_last : (set : Charset) (escape : Option ℕ) (text rest : List ℕ) (c
     ReadsItem set escape text rest (Literal code)
 reads_last set escape text rest code e h none = record {
   first = ap (items_of escape) (h.first ∙ ap (λ t. code ∷ t) none)
-    ∙ items_of-last escape code e
-    ∙ ap (λ t. Literal code ∷ t) (sym (ap (items_of escape) none ∙ items_of-none escape));
+      ∙ items_of-last escape code e
+      ∙ ap (λ t. Literal code ∷ t) (sym (ap (items_of escape) none ∙ items_of-none escape));
   of_set = h.of_set;
   shorter = h.shorter;
 }

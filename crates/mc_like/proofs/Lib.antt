@@ -3,3 +3,4 @@ pub mod Counts
 pub mod Like
 pub mod Passes
 pub mod Fits
+pub mod LawLemmas

@@ -91,8 +91,8 @@ pub any_goes_on : (m : Meaning) (items : List Item) (codes behind : List ℕ) (c
     Like m (Any ∷ items) behind ↔ Like m (Any ∷ items) codes
 any_goes_on m items codes behind code e never = (
   λ h. let some = Like-any m items behind h in
-  Like-any_back m items codes (suc some.0)
-  (subst (λ (t : List ℕ). Like m items (drop (suc some.0) t)) (sym e) some.1),
+      Like-any_back m items codes (suc some.0)
+      (subst (λ (t : List ℕ). Like m items (drop (suc some.0) t)) (sym e) some.1),
   λ h. let some = Like-any m items codes h in one_more some.0 some.1,
 )
   where

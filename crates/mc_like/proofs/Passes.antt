@@ -57,8 +57,8 @@ at_any m items left more codes rest item p' e any =
       whole = (p.forward zero, p.back);
       later = (
         λ h. let some = Like-any m items codes h in
-        any_absorbs m more some.0 rest (p.forward some.0 some.1),
-        λ h. Like-any_back m items codes zero (p.back h)
+            any_absorbs m more some.0 rest (p.forward some.0 some.1),
+        λ h. Like-any_back m items codes zero (p.back h),
       );
       shorter = omega (arith, p.shorter);
       one_each = omega (arith, p.one_each);

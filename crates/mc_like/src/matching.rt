@@ -8,9 +8,7 @@ ghost use Rattle.std.specs.Prelude.{◌≡◌, ◌↔◌, ◌+◌, ◌*◌, ◌�
 use crate::Item;
 use crate::fit::{Fit, first_in, fit_front};
 use mc_base::Steps;
-use mc_charset::{
-    Ascii, Binary, Charset, Encoding, Latin1, Ucs2, Utf8mb3, Utf8mb4, Utf16, Utf32,
-};
+use mc_charset::{Ascii, Binary, Charset, Encoding, Latin1, Ucs2, Utf8mb3, Utf8mb4, Utf16, Utf32};
 use mc_order::Collation;
 
 /// Whether a text of the set matches the items.
@@ -89,7 +87,10 @@ fn is_match_behind<C: Collation, E: Encoding, W>(
         match fit_front::<C, E, W>(collation, items, rest, work) {
             Fit::Whole => return true,
             Fit::Short => return false,
-            Fit::Gap { items: more, rest: behind } => {
+            Fit::Gap {
+                items: more,
+                rest: behind,
+            } => {
                 items = more;
                 rest = behind;
             }

@@ -85,12 +85,7 @@ impl Pattern {
     /// its flat list under the collation, and no padding counts. Each comparison of two characters
     /// ticks once, so that there are at most `(n + 1) * (m + 1)` ticks for `n` characters and `m`
     /// items. It takes no memory. MySQL 8.0 manual, 14.8.1, LIKE.
-    pub fn matches<C: Collation, W>(
-        &self,
-        collation: &C,
-        text: &[u8],
-        work: &mut Steps<W>,
-    ) -> bool
+    pub fn matches<C: Collation, W>(&self, collation: &C, text: &[u8], work: &mut Steps<W>) -> bool
         requires same_set { (C.meaning collation.now).charset ≡ self.now.charset }
         requires well_formed { IsWellFormed self.now.charset text.now }
         ensures exact { let codes = chars self.now.charset text.now in

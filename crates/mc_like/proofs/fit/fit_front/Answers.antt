@@ -38,10 +38,10 @@ returns-in-Any-clause-left_of_set g c =
 pub returns-in_default-first_in : goal.returns-in_default-first_in
 returns-in_default-first_in g c = record {
   fit = at_text_end (g.C.Collation.meaning c.args.collation.now) c.args.items.now
-    c.loop-item.left.now c.in-Some.more.now (chars g.E.Encoding.set c.args.text.now)
-    (chars g.E.Encoding.set c.loop-item.rest.now) c.in-Some.item.now c.loop-item.invariant.0
-    c.in-Some.ensures.cases.0 c.in_default-first_in.ensures
-    (record { other = c.in_default-item.not-Any });
+      c.loop-item.left.now c.in-Some.more.now (chars g.E.Encoding.set c.args.text.now)
+      (chars g.E.Encoding.set c.loop-item.rest.now) c.in-Some.item.now c.loop-item.invariant.0
+      c.in-Some.ensures.cases.0 c.in_default-first_in.ensures
+      (record { other = c.in_default-item.not-Any });
   ticks = omega (arith, c.loop-item.invariant.2);
   left_of_set = tt;
 }
@@ -55,23 +55,23 @@ is_like-requires g c =
     subst (AreOfSet set) c.in-Some.ensures.cases.0 c.loop-item.invariant.1 in
     record {
       of_set = subst (λ (s : Charset). IsTrue (is_of_set s item)) c.requires.same_set
-        (All-head (λ i. IsTrue (is_of_set set i)) item c.in-Some.more.now all);
+          (All-head (λ i. IsTrue (is_of_set set i)) item c.in-Some.more.now all);
       is_char = subst (λ (s : Charset). IsCharOf s c.in-Some-first_in.code) c.requires.same_set
-        (is_char set c.in-Some-first_in.code first.of_set);
+          (is_char set c.in-Some-first_in.code first.of_set);
     }
 
 pub returns-then-not-is_like : goal.returns-then-not-is_like
 returns-then-not-is_like g c = record {
   fit = at_misfit (g.C.Collation.meaning c.args.collation.now) c.args.items.now
-    c.loop-item.left.now c.in-Some.more.now (chars g.E.Encoding.set c.args.text.now)
-    (chars g.E.Encoding.set c.loop-item.rest.now)
-    (chars g.E.Encoding.set c.in-Some-first_in.behind.now) c.in-Some.item.now
-    c.in-Some-first_in.code c.loop-item.invariant.0 c.in-Some.ensures.cases.0
-    c.in-Some-first_in.ensures.first (record { other = c.in_default-item.not-Any })
-    (λ takes. let never : false ≡ true = c.if-not-is_like.ensures.takes.1 takes in cc);
+      c.loop-item.left.now c.in-Some.more.now (chars g.E.Encoding.set c.args.text.now)
+      (chars g.E.Encoding.set c.loop-item.rest.now)
+      (chars g.E.Encoding.set c.in-Some-first_in.behind.now) c.in-Some.item.now
+      c.in-Some-first_in.code c.loop-item.invariant.0 c.in-Some.ensures.cases.0
+      c.in-Some-first_in.ensures.first (record { other = c.in_default-item.not-Any })
+      (λ takes. let never : false ≡ true = c.if-not-is_like.ensures.takes.1 takes in cc);
   ticks = (
     omega (arith, c.loop-item.invariant.2, c.in-Some.ensures.cases.1, c.is_like.ensures.at_most),
-    omega (arith, c.loop-item.invariant.4, c.is_like.ensures.at_least)
+    omega (arith, c.loop-item.invariant.4, c.is_like.ensures.at_least),
   );
   left_of_set = tt;
 }
@@ -81,14 +81,14 @@ loop-item-preserved g c =
     let cases = c.in-Some.ensures.cases in
     let count = ap literal_count cases.0 ∙ literal_count-cons c.in-Some.item.now c.in-Some.more.now in (
       at_one_more (g.C.Collation.meaning c.args.collation.now) c.args.items.now
-        c.loop-item.left.now c.in-Some.more.now (chars g.E.Encoding.set c.args.text.now)
-        (chars g.E.Encoding.set c.loop-item.rest.now)
-        (chars g.E.Encoding.set c.in-Some-first_in.behind.now) c.in-Some.item.now
-        c.in-Some-first_in.code c.loop-item.invariant.0 cases.0
-        c.in-Some-first_in.ensures.first (record { other = c.in_default-item.not-Any })
-        (c.if-not-is_like.ensures.takes.0 refl),
+          c.loop-item.left.now c.in-Some.more.now (chars g.E.Encoding.set c.args.text.now)
+          (chars g.E.Encoding.set c.loop-item.rest.now)
+          (chars g.E.Encoding.set c.in-Some-first_in.behind.now) c.in-Some.item.now
+          c.in-Some-first_in.code c.loop-item.invariant.0 cases.0
+          c.in-Some-first_in.ensures.first (record { other = c.in_default-item.not-Any })
+          (c.if-not-is_like.ensures.takes.0 refl),
       All-rest (λ item. IsTrue (is_of_set g.E.Encoding.set item)) c.in-Some.item.now
-        c.in-Some.more.now c.loop-item.left.now cases.0 c.loop-item.invariant.1,
+          c.in-Some.more.now c.loop-item.left.now cases.0 c.loop-item.invariant.1,
       omega (arith, c.loop-item.invariant.2, cases.1, c.is_like.ensures.at_most),
       at_least_more _ _ _ _ _ _ _ _ c.loop-item.invariant.3 count c.is_like.ensures.at_least,
       omega (arith, c.loop-item.invariant.4, c.is_like.ensures.at_least),
@@ -108,12 +108,12 @@ returns-in-None g c =
     let count = ap literal_count none ∙ literal_count-none in
     record {
       fit = at_both_ends (g.C.Collation.meaning c.args.collation.now) c.args.items.now
-        c.loop-item.left.now (chars g.E.Encoding.set c.args.text.now)
-        (chars g.E.Encoding.set c.loop-item.rest.now) c.loop-item.invariant.0 none
-        c.in-None.ensures;
+          c.loop-item.left.now (chars g.E.Encoding.set c.args.text.now)
+          (chars g.E.Encoding.set c.loop-item.rest.now) c.loop-item.invariant.0 none
+          c.in-None.ensures;
       ticks = (
         omega (arith, c.loop-item.invariant.2),
-        omega (arith, c.loop-item.invariant.3, count)
+        omega (arith, c.loop-item.invariant.3, count),
       );
       left_of_set = tt;
     }

@@ -16,9 +16,9 @@ invariant-loop-items g l =
     × AreOfSet set l.items
     × (length l.items ≤ length l.fn.items)
     × (l.work + length (chars set l.rest) * most + length l.items
-        ≤ l.fn.work + length (chars set l.text) * most + length l.fn.items)
+    ≤ l.fn.work + length (chars set l.text) * most + length l.fn.items)
     × (min (l.fn.work + literal_count l.fn.items) last_count
-        ≤ min (l.work + literal_count l.items) last_count)
+    ≤ min (l.work + literal_count l.items) last_count)
 
 abbrev pub decreases-loop-items : goal.decreases-loop-items
 decreases-loop-items g l = length (chars g.E.Encoding.set l.rest) + length l.items
