@@ -3,7 +3,6 @@ use Rattle.std.proofs.Common.{◌≡◌, ℕ, suc, true, ◌==◌, ◌+◌, ◌*
 use Rattle.std.proofs.lemmas.Bool.Decides.{nat_tests}
 use Rattle.mc_like.specs.declared.item.Item.{Item}
 use Rattle.mc_like.specs.declared.item.Item.TheVariants.{Literal, One, Any}
-use Rattle.mc_like.specs.Fits.{last_count}
 use Rattle.mc_like.specs.Items.{literal_count}
 
 pub literal_count-none : literal_count [] ≡ 0

@@ -1,5 +1,5 @@
 -- What the answers of a stretch without `%` say of the whole.
-use Rattle.std.proofs.Common.{◌≡◌, ℕ, zero, ◌⊎◌, inl, inr, List, refl}
+use Rattle.std.proofs.Common.{◌≡◌, ℕ, zero, ◌⊎◌, inl, inr, List}
 use Rattle.mc_charset.specs.declared.charset.Charset.{Charset}
 use Rattle.mc_order.specs.Meaning.{Meaning}
 use Rattle.mc_like.specs.declared.fit.Fit.{Fit}

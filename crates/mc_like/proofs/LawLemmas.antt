@@ -1,17 +1,15 @@
 -- What patterns and LIKE keep.
-use Rattle.std.proofs.Common.{◌≡◌, ◌≢◌, ◌↔◌, ℕ, zero, suc, ◌+◌, ◌-◌, ◌≤◌, ◌<◌, ◌==◌, Bool, true, false, List, [], ◌∷◌, ◌++◌, Option, Some, None, map, length, take, drop, refl, sym, ap, ◌∙◌, subst, ◌⊎◌, inl, inr, arith}
-use Rattle.std.proofs.Math.Seq.{drop-nil}
-use Rattle.std.specs.List.{All, AllZip, flat_map}
+use Rattle.std.proofs.Common.{◌≡◌, ◌≢◌, ◌↔◌, ℕ, zero, suc, ◌+◌, ◌-◌, ◌≤◌, true, false, List, [], ◌∷◌, ◌++◌, Some, None, length, take, drop, refl, sym, ap, ◌∙◌, subst, inl, inr, arith}
+use Rattle.std.specs.List.{flat_map}
 use Rattle.std.proofs.lemmas.Bool.Decides.{nat_tests}
 use Rattle.std.proofs.lemmas.List.{drop-drop, drop-take, drop_all, length-take}
 use Rattle.std.proofs.lemmas.Bool.{cases_lt}
 use Rattle.std.proofs.lemmas.List.Elements.{All-head, All-tail}
-use Rattle.mc_order.specs.Consequences.{IsSameChar}
 use Rattle.mc_order.specs.Meaning.{Meaning}
 use Rattle.mc_like.specs.declared.item.Item.{Item}
 use Rattle.mc_like.specs.declared.item.Item.TheVariants.{Literal, One, Any}
-use Rattle.mc_like.specs.Items.{item_of, items_of, is_escape, literal_front}
-use Rattle.mc_like.specs.Laws.{EachIsItem, EachOtherIsItem, EscapedIsLiteral, LastEscapeIsLiteral, AnyMatchesAll, LiteralsMatchEach, JoinedMatchAtCut, BeginsLikeFront}
+use Rattle.mc_like.specs.Items.{item_of, is_escape, literal_front}
+use Rattle.mc_like.specs.Laws.{EachIsItem, EachOtherIsItem, EscapedIsLiteral, LastEscapeIsLiteral, LiteralsMatchEach, JoinedMatchAtCut, BeginsLikeFront}
 use Rattle.mc_like.specs.Like.{Like}
 use Rattle.mc_like.proofs.Like.{IsSingle, Like-end, Like-end_left, Like-end_right, Like-single, Like-single_back, Like-any, Like-any_back}
 use Rattle.mc_like.proofs.Items.{items_of-none, items_of-plain, items_of-escaped, items_of-last}

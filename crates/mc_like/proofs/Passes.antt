@@ -1,9 +1,9 @@
 -- What it means to have gone over items, one character each.
-use Rattle.std.proofs.Common.{◌≡◌, ℕ, zero, suc, ◌+◌, ◌≤◌, ◌↔◌, List, [], ◌∷◌, length, drop, refl, ap, ◌∙◌, sym, subst, arith}
+use Rattle.std.proofs.Common.{◌≡◌, ℕ, zero, ◌+◌, ◌≤◌, List, [], ◌∷◌, length, drop, refl, ap, ◌∙◌, subst, arith}
 use Rattle.std.proofs.Math.Seq.{drop-nil}
 use Rattle.mc_order.specs.Meaning.{Meaning}
 use Rattle.mc_like.specs.declared.item.Item.{Item}
-use Rattle.mc_like.specs.declared.item.Item.TheVariants.{Literal, One, Any}
+use Rattle.mc_like.specs.declared.item.Item.TheVariants.{Any}
 use Rattle.mc_like.specs.Fits.{Takes, Reaches}
 use Rattle.mc_like.specs.Like.{Like}
 use Rattle.mc_like.proofs.Like.{IsSingle, Like-end, Like-end_left, Like-end_right, Like-single, Like-single_back, Like-any, Like-any_back, single_behind, any_absorbs}

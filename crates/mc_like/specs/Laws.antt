@@ -1,5 +1,5 @@
 -- What patterns are and what LIKE is, in the words of the MySQL 8.0 manual, 14.8.1.
-use Rattle.std.specs.Prelude.{◌≡◌, ◌≢◌, ◌↔◌, ℕ, List, [], ◌∷◌, ◌++◌, Option, Some, None, map, length}
+use Rattle.std.specs.Prelude.{◌≡◌, ◌≢◌, ◌↔◌, ℕ, List, [], ◌∷◌, ◌++◌, Some, None, map, length}
 use Rattle.std.specs.Prelude.{take, drop}
 use Rattle.std.specs.List.{All, AllZip, flat_map}
 use Rattle.mc_order.specs.Consequences.{IsSameChar}

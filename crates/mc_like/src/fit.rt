@@ -3,7 +3,6 @@ ghost use Rattle.mc_like.specs.Fits.{IsFit, Takes, Ticks, LeavesOfSet, last_coun
 ghost use Rattle.mc_like.specs.Items.{literal_count};
 ghost use Rattle.mc_like.specs.Pattern.{AreOfSet, is_of_set};
 ghost use Rattle.mc_like.specs.Read.{HasFirst};
-ghost use Rattle.mc_order.specs.Consequences.{IsSameChar};
 ghost use Rattle.mc_order.specs.Meaning.{IsCharOf};
 ghost use Rattle.std.specs.Prelude.{◌≡◌, ◌↔◌, ◌+◌, ◌≤◌, ◌∷◌, [], IsTrue, MatchOption, min};
 

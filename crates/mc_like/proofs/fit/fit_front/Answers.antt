@@ -1,10 +1,8 @@
-use Rattle.std.proofs.Common.{◌≡◌, ℕ, ◌+◌, ◌≤◌, ◌∷◌, [], List, IsTrue, true, false, refl, min, length, sym, ap, ◌∙◌, subst, arith}
+use Rattle.std.proofs.Common.{◌≡◌, ◌∷◌, IsTrue, true, false, refl, ap, ◌∙◌, subst, arith}
 use Rattle.std.proofs.lemmas.List.Elements.{All-head, All-rest}
 use Rattle.mc_charset.specs.declared.charset.Charset.{Charset}
-use Rattle.mc_charset.specs.Chars.{chars, spell}
+use Rattle.mc_charset.specs.Chars.{chars}
 use Rattle.mc_order.specs.Meaning.{IsCharOf}
-use Rattle.mc_like.specs.declared.item.Item.{Item}
-use Rattle.mc_like.specs.Fits.{last_count}
 use Rattle.mc_like.specs.Items.{literal_count}
 use Rattle.mc_like.specs.Pattern.{AreOfSet, is_of_set}
 use Rattle.mc_like.proofs.Counts.{literal_count-any, literal_count-cons, literal_count-none, at_least_more}

@@ -1,4 +1,3 @@
-use Rattle.std.proofs.Common.{◌≡◌, true, false}
 use Rattle.mc_charset.specs.Chars.{chars}
 use Rattle.mc_like.proofs.Fits.{no_fit}
 use Rattle.mc_like.proofs.matching.is_match.Goals as goal

@@ -1,4 +1,4 @@
-use Rattle.std.proofs.Common.{◌≡◌, ◌+◌, ◌*◌, ◌≤◌, ◌∷◌, ℕ, zero, suc, true, false, List, length, min, refl, ap, sym, ◌∙◌, subst, arith}
+use Rattle.std.proofs.Common.{◌∷◌, zero, List, length, refl, ap, sym, ◌∙◌, subst, arith}
 use Rattle.mc_charset.specs.Chars.{chars}
 use Rattle.mc_like.specs.declared.item.Item.{Item}
 use Rattle.mc_like.specs.declared.item.Item.TheVariants.{Any}

@@ -1,4 +1,4 @@
-use Rattle.std.proofs.Common.{◌≡◌, ◌↔◌, ◌+◌, ◌*◌, ◌≤◌, ◌∷◌, length, min}
+use Rattle.std.proofs.Common.{◌↔◌, ◌+◌, ◌*◌, ◌≤◌, ◌∷◌, length, min}
 use Rattle.mc_charset.specs.Chars.{chars}
 use Rattle.mc_like.specs.declared.item.Item.TheVariants.{Any}
 use Rattle.mc_like.specs.Fits.{last_count}

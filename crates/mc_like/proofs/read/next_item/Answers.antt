@@ -1,6 +1,5 @@
 use Rattle.mc_like.proofs.Items.{reads_plain, reads_escaped, reads_last}
 use Rattle.std.proofs.Common.{sym, ◌∙◌, subst}
-use Rattle.mc_like.specs.declared.item.Item.{Item}
 use Rattle.mc_like.specs.Read.{ReadsItem}
 use Rattle.mc_like.proofs.Items.{items_of-no_characters}
 use Rattle.mc_like.proofs.read.next_item.Goals as goal

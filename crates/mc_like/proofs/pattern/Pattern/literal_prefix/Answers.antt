@@ -1,4 +1,4 @@
-use Rattle.std.proofs.Common.{List, ℕ, subst, sym, ◌∙◌, ap}
+use Rattle.std.proofs.Common.{List, ℕ, subst, sym}
 use Rattle.mc_order.specs.Meaning.{AreCharsOf}
 use Rattle.mc_like.proofs.Items.{front_of_set}
 use Rattle.mc_like.proofs.pattern.Pattern.literal_prefix.Goals as goal
