@@ -1,4 +1,4 @@
-use Rattle.std.proofs.Common.{◌∷◌, zero, List, length, refl, ap, sym, ◌∙◌, subst, arith}
+use Rattle.std.proofs.Common.{◌≡◌, ◌∷◌, zero, suc, List, length, refl, ap, sym, ◌∙◌, subst, arith}
 use Rattle.mc_charset.specs.Chars.{chars}
 use Rattle.mc_like.specs.declared.item.Item.{Item}
 use Rattle.mc_like.specs.declared.item.Item.TheVariants.{Any}
@@ -29,6 +29,8 @@ pub loop-items-preserved : goal.loop-items-preserved
 loop-items-preserved g c =
     let set = g.E.Encoding.set in
     let first = c.in-Some.ensures.first in
+    let longer : length (chars set c.loop-items.rest.now)
+    ≡ suc (length (chars set c.in-Some.behind.now)) = ap length first in
     let ticks = c.in-Misfit.ensures.ticks in
     let on = any_goes_on (g.C.Collation.meaning c.args.collation.now) c.loop-items.items.now
     (chars set c.loop-items.rest.now) (chars set c.in-Some.behind.now) _ first
@@ -37,7 +39,7 @@ loop-items-preserved g c =
       c.loop-items.invariant.1,
       c.loop-items.invariant.2,
       at_most_misfit _ c.loop-items.work _ _ (length (chars set c.loop-items.rest.now)) _ _ _
-          (ap length first) ticks.0 c.loop-items.invariant.2 c.loop-items.invariant.3,
+          longer ticks.0 c.loop-items.invariant.2 c.loop-items.invariant.3,
       omega (arith, c.loop-items.invariant.4, ticks.1),
     )
 
