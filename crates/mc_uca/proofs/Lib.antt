@@ -1,0 +1,5 @@
+pub mod Levels
+pub mod CodeLemmas
+pub mod Places
+pub mod SetContractions
+pub mod PieceFacts
