@@ -1,5 +1,7 @@
 pub mod Levels
 pub mod CodeLemmas
 pub mod Places
-pub mod SetContractions
 pub mod PieceFacts
+pub mod TailSteps
+pub mod Filters
+pub mod Fronts

@@ -1,5 +1,5 @@
 -- The piece that begins a text, found in a window over its first codes.
-use Rattle.std.proofs.Common.{◌≡◌, ◌⊎◌, ℕ, zero, suc, ◌+◌, ◌-◌, ◌≤◌, ◌<◌, min, true, List, [], ◌∷◌, ◌++◌, length, length-take, length-drop, take, drop, Option, Some, option_map, refl, sym, ap, subst, ◌∙◌, inl, inr, arith}
+use Rattle.std.proofs.Common.{◌≡◌, ◌⊎◌, ℕ, zero, suc, ◌+◌, ◌-◌, ◌≤◌, ◌<◌, min, true, List, [], ◌∷◌, ◌++◌, length, length-take, length-drop, append-nil, take, drop, Option, Some, option_map, refl, sym, ap, subst, ◌∙◌, inl, inr, arith}
 use Rattle.std.specs.FinMap as map
 use Rattle.std.specs.List.{Contains, flat_map}
 use Rattle.std.specs.Option.{option_map_or}
@@ -17,7 +17,7 @@ use Rattle.mc_uca.specs.Reach.{reach_at, Reaches}
 use Rattle.mc_uca.specs.Streams.{IsFirstPiece}
 use Rattle.mc_uca.specs.Weighing.{is_of_set, set_contractions, uca_elements}
 use Rattle.mc_uca.specs.declared.kind.UcaKind.{UcaKind}
-use Rattle.mc_uca.proofs.SetContractions.{of_table, set_at}
+use Rattle.mc_uca.specs.SetContractions.{of_table, set_at}
 
 front_one : (first len : ℕ) (rest : List ℕ) → 1 ≤ len →
     take len (first ∷ rest) ≡ first ∷ take (len - 1) rest
@@ -168,3 +168,25 @@ joined_by_window set kind table lens first m len codes rest front behind element
     subst (λ cs. IsFirstPiece (uca_elements set kind table) cs piece behind) (sym e)
     (first_piece set kind table first len rest behind piece laws.step long (omega (arith, some))
     (entry_elements table kind (take len (first ∷ rest)) elements entry ∙ sym p) (b ∙ ap (drop len) e))
+
+one_by : (len : ℕ) (P : Type 0) → 1 ≤ len → (len ≡ 1) ⊎ ((len ≤ 1) × P) → len ≡ 1
+one_by len P some (inl e) = e
+one_by len P some (inr h) = let a = h.0 in omega arith
+
+-- A character by itself has its own elements.
+pub one_code : (set : Charset) (kind : UcaKind) (table : ElementTable) (code : ℕ) →
+    ((contractions : List (List ℕ)) (codes : List ℕ) →
+    IsPieceLen contractions codes (piece_len contractions codes)) →
+    ((contractions : List (List ℕ)) (code : ℕ) (rest : List ℕ) →
+    pieces contractions (code ∷ rest)
+    ≡ take (piece_len contractions (code ∷ rest)) (code ∷ rest)
+    ∷ pieces contractions (drop (piece_len contractions (code ∷ rest)) (code ∷ rest))) →
+    uca_elements set kind table (code ∷ []) ≡ elements_of table (family_of kind) (code ∷ [])
+one_code set kind table code is step =
+    let T = set_contractions set table.entries in
+    let len = is T (code ∷ []) in
+    let one = one_by (piece_len T (code ∷ []))
+    (Contains T (take (piece_len T (code ∷ [])) (code ∷ []))) len.some len.reached in
+    (first_piece set kind table code 1 [] [] (elements_of table (family_of kind) (code ∷ [])) step
+    one (omega arith) refl refl).elements
+    ∙ append-nil (elements_of table (family_of kind) (code ∷ []))

@@ -1,5 +1,9 @@
 pub mod Kind
 pub mod Weighing
 pub mod UcaMeaning
+pub mod SetContractions
+pub mod UcaLaws
 pub mod Reach
 pub mod Streams
+pub mod Inserts
+pub mod Fault

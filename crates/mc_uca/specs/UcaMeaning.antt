@@ -1,5 +1,6 @@
 -- What a Unicode collation means: MySQL 8.0 manual, 10.10.1; UTS #10, S3.
-use Rattle.std.specs.Prelude.{ℕ, List, [], ◌∷◌, slice_index_or, if◌then◌else◌}
+use Rattle.std.specs.Prelude.{ℕ, ◌==◌, Bool, true, List, [], ◌∷◌, length, slice_index_or}
+use Rattle.std.specs.Prelude.{if◌then◌else◌}
 use Rattle.mc_charset.specs.declared.charset.Charset.{Charset}
 use Rattle.mc_order.specs.Floor.{weighs}
 use Rattle.mc_order.specs.Meaning.{Meaning}
@@ -15,6 +16,11 @@ use Rattle.mc_uca.specs.declared.kind.UcaKind.{UcaKind}
 abbrev pub space_by : Pad → List ℕ → ℕ
 space_by PadSpace list = slice_index_or list 0 0
 space_by NoPad list = 0
+
+-- whether the space has one weight, where texts are padded
+abbrev pub space_fits : Pad → List ℕ → Bool
+space_fits PadSpace list = length list == 1
+space_fits NoPad list = true
 
 -- The weights are those of the table itself, one to three levels, with the contractions of the set.
 abbrev pub uca_meaning : Charset → UcaKind → ElementTable → Meaning

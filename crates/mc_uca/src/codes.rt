@@ -1,8 +1,8 @@
-ghost use Rattle.mc_charset.specs.Chars.{chars};
+ghost use Rattle.mc_charset.specs.Chars.{chars, IsWellFormed};
 ghost use Rattle.mc_uca.specs.Weighing.{is_of_set};
 ghost use Rattle.std.specs.Prelude.{◌≡◌, ◌≤◌, true, length, take, drop};
 
-use mc_charset::{CharAt, Encoding, next_in};
+use mc_charset::{CharAt, Encoding, chars_law, next_in};
 
 /// How many characters are looked at together: as many as the longest contraction has.
 pub(crate) const WINDOW: usize = 6;
@@ -41,4 +41,20 @@ pub(crate) fn behind_codes<E: Encoding>(text: &[u8], count: usize) -> &[u8]
         }
     }
     rest
+}
+
+/// The first characters of a text, so many, or all where it has no more.
+pub(crate) fn front_codes<E: Encoding>(text: &[u8], count: u32) -> &[u8]
+    requires { IsWellFormed E.set text.now }
+    ensures { chars E.set result.now ≡ take count (chars E.set text.now) }
+{
+    chars_law();
+    let mut at = 0;
+    for _ in 0..count {
+        match next_in::<E>(&text[at..]) {
+            CharAt::Char { len, .. } => at += len,
+            CharAt::End | CharAt::Bad => return text,
+        }
+    }
+    &text[..at]
 }

@@ -1,6 +1,6 @@
 ghost use Rattle.mc_allkeys.specs.Table.{contractions_of};
 ghost use Rattle.mc_rules.specs.Elements.{elements_of};
-ghost use Rattle.mc_uca.specs.Kind.{family_of};
+ghost use Rattle.mc_uca.specs.Kind.{family_of, levels_of};
 ghost use Rattle.mc_uca.specs.Reach.{Reaches};
 ghost use Rattle.mc_uca.specs.Streams.{pending_left};
 ghost use Rattle.std.specs.Prelude.{◌≡◌, ◌≤◌, ◌∷◌, [], IfOk};
@@ -21,6 +21,8 @@ pub(crate) struct Weigher {
     pub(crate) kind: UcaKind,
     pub(crate) keys: Keys,
     pub(crate) reach: Reach,
+    ghost some_level: { 1 ≤ levels_of kind },
+    ghost few_levels: { levels_of kind ≤ 3 },
     ghost reaches: { Reaches (contractions_of keys.entries) reach },
 }
 
@@ -32,6 +34,8 @@ impl Weigher {
         kind: UcaKind,
         keys: Keys,
     ) -> Result<Weigher, NoMemory>
+        requires some_level { 1 ≤ levels_of kind }
+        requires few_levels { levels_of kind ≤ 3 }
         ensures charset { IfOk result (λ weigher. weigher.charset ≡ charset) }
         ensures kind { IfOk result (λ weigher. weigher.kind ≡ kind) }
         ensures keys { IfOk result (λ weigher. weigher.keys ≡ keys) }
