@@ -1,11 +1,11 @@
 -- Fronts of lists of codes, as loops take them.
-use Rattle.std.proofs.Common.{◌≡◌, ℕ, zero, suc, ◌+◌, ◌<◌, ◌≤◌, ◌&&◌, Bool, true, false, List, [], ◌∷◌, ◌++◌, Option, Some, None, length, take, drop, get_or, set, append_assoc, append-nil, take_all, refl, sym, ap, ◌∙◌, arith}
+use Rattle.std.proofs.Common.{◌≡◌, ℕ, zero, suc, ◌+◌, ◌-◌, ◌<◌, ◌≤◌, ◌&&◌, Bool, true, false, List, [], ◌∷◌, ◌++◌, Option, Some, None, length, length-drop, take, drop, get_or, set, append_assoc, append-nil, take_all, refl, sym, ap, ◌∙◌, arith}
 use Rattle.std.specs.List.{list_all}
 use Rattle.std.specs.Option.{is_some}
 use Rattle.std.proofs.lemmas.List.{take_at, take_more_set}
 use Rattle.std.proofs.lemmas.List.Folds.{list_all-append}
 
-drop_none : (n : ℕ) → drop {A = ℕ} n [] ≡ []
+pub drop_none : (n : ℕ) → drop {A = ℕ} n [] ≡ []
 drop_none zero = refl
 drop_none (suc n) = refl
 
@@ -62,5 +62,19 @@ all_more test window count code text lt all is =
     ap (list_all (λ c. is_some (test c))) (take_more_set window count code lt)
     ∙ list_all-append (λ c. is_some (test c)) (take count window) (code ∷ [])
     ∙ rw (all, is_there (test code) text is) refl
+
+-- What a slice from a place on is.
+pub rest_is : (codes : List ℕ) (n : ℕ) → take (length codes - n) (drop n codes) ≡ drop n codes
+rest_is codes n = take_all (length codes - n) (drop n codes) (omega (arith, length-drop n codes))
+
+parts : (a b : Bool) → (a && b) ≡ true → (a ≡ true) × (b ≡ true)
+parts true b e = (refl, e)
+parts false b e = absurd cc
+
+pub all_behind : (p : ℕ → Bool) (n : ℕ) (codes : List ℕ) → list_all p codes ≡ true →
+    list_all p (drop n codes) ≡ true
+all_behind p zero codes e = e
+all_behind p (suc n) [] e = refl
+all_behind p (suc n) (c ∷ cs) e = all_behind p n cs (parts (p c) (list_all p cs) e).1
 
 pub ruleset fronts = (drop_more, drop_next, front_all, front_part, written_more, all_more)

@@ -1,7 +1,9 @@
 -- The members from a place on that pass a test, and a search over numbers.
 use Rattle.std.proofs.Common.{◌≡◌, ◌⊎◌, ℕ, zero, suc, ◌+◌, ◌<◌, ◌≤◌, ◌&&◌, Bool, true, false, cond, List, [], ◌∷◌, length, drop, filter, slice_index_or, refl, sym, ap, subst, ◌∙◌, inl, inr, arith}
 use Rattle.std.proofs.lemmas.Bool.{cases_lt}
-use Rattle.mc_order.specs.Floor.{each_below}
+use Rattle.mc_charset.specs.declared.charset.Charset.{Charset}
+use Rattle.mc_charset.specs.Chars.{code_points}
+use Rattle.mc_order.specs.Floor.{each_below, weighs_if_char, weighs}
 use Rattle.mc_order.specs.Tails.{has_members}
 
 drop_at : (xs : List (List ℕ)) (n : ℕ) → n < length xs →
@@ -63,15 +65,30 @@ not_first : (a b : Bool) → a ≡ false → (a && b) ≡ false
 not_first true b e = absurd cc
 not_first false b e = refl
 
+ends_at : (n i : ℕ) (test : ℕ → Bool) → i < suc n → test i ≡ false → (i < n) ⊎ (n ≤ i) →
+    (i < n → each_below n test ≡ false) → (test n && each_below n test) ≡ false
+ends_at n i test lt e (inl less) rest = no_join (test n) (each_below n test) (rest less)
+ends_at n i test lt e (inr more) rest =
+    let is : i ≡ n = omega arith in
+    not_first (test n) (each_below n test) (subst (λ k. test k ≡ false) is e)
+
 pub each_ends : (n i : ℕ) (test : ℕ → Bool) → i < n → test i ≡ false → each_below n test ≡ false
 unfolding each_below
 each_ends zero i test lt e = absurd (omega arith)
 each_ends (suc n) i test lt e =
-    by (cases_lt i n) (λ less. each_ends n i test less e)
-  where
-    by : (i < n) ⊎ (n ≤ i) → (i < n → each_below n test ≡ false) →
-        (test n && each_below n test) ≡ false
-    by (inl less) rest = no_join (test n) (each_below n test) (rest less)
-    by (inr more) rest =
-        let is : i ≡ n = omega arith in
-        not_first (test n) (each_below n test) (subst (λ k. test k ≡ false) is e)
+    ends_at n i test lt e (cases_lt i n) (λ less. each_ends n i test less e)
+
+pub ruleset searches = (each_none, each_more, each_ends)
+
+pub none_weighs : (set : Charset) (first : List ℕ → List ℕ) (contractions : List (List ℕ)) →
+    has_members contractions ≡ true → weighs set first contractions ≡ false
+unfolding weighs
+none_weighs set first contractions e = rw e refl
+
+pub all_weigh : (set : Charset) (first : List ℕ → List ℕ) (contractions : List (List ℕ)) →
+    has_members contractions ≡ false →
+    weighs set first contractions ≡ each_below code_points (weighs_if_char set first)
+unfolding weighs
+all_weigh set first contractions e = rw e refl
+
+pub ruleset weighing = (none_weighs, all_weigh)

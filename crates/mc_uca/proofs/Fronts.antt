@@ -1,10 +1,10 @@
 -- A text's first characters, and the bytes that spell them.
 use Rattle.std.proofs.Common.{◌≡◌, ℕ, zero, suc, ◌+◌, ◌<◌, ◌≤◌, List, [], ◌∷◌, ◌++◌, Option, Some, None, length, take, drop, append-nil, take_all, refl, sym, ap, subst, ◌∙◌, arith}
 use Rattle.std.specs.Prelude.{option_and_then}
-use Rattle.std.proofs.lemmas.List.{drop-drop}
+use Rattle.std.proofs.Math.Seq.{take-add}
 use Rattle.mc_charset.specs.declared.charset.Charset.{Charset}
 use Rattle.mc_charset.specs.Chars.{spell, spell_all, chars, Spells}
-use Rattle.mc_uca.proofs.CodeLemmas.{drop_next}
+use Rattle.mc_uca.proofs.CodeLemmas.{drop_none, drop_next}
 
 one_spells : (set : Charset) (code : ℕ) (text : List ℕ) → spell set code ≡ Some text →
     Spells set (code ∷ []) text
@@ -19,20 +19,14 @@ take_next (suc n) (c ∷ cs) code rest e =
     let more : suc n + 1 ≡ suc (n + 1) = omega arith in
     rw more (ap (λ t. c ∷ t) (take_next n cs code rest e))
 
-take_both : (n m : ℕ) (text : List ℕ) → take (n + m) text ≡ take n text ++ take m (drop n text)
-take_both zero m text = refl
-take_both (suc n) zero [] = refl
-take_both (suc n) (suc m) [] = refl
-take_both (suc n) m (b ∷ bs) =
-    let more : suc n + m ≡ suc (n + m) = omega arith in
-    rw more (ap (λ t. b ∷ t) (take_both n m bs))
-
 drop_both : (n m : ℕ) (text : List ℕ) → drop (n + m) text ≡ drop m (drop n text)
-drop_both zero m text = refl
-drop_both (suc n) zero [] = refl
-drop_both (suc n) (suc m) [] = refl
+drop_both zero m text = let e : 0 + m ≡ m = omega arith in ap (λ k. drop k text) e
+drop_both (suc n) m [] =
+    let more : suc n + m ≡ suc (n + m) = omega arith in
+    ap (λ k. drop {A = ℕ} k []) more ∙ sym (drop_none m)
 drop_both (suc n) m (b ∷ bs) =
-    let more : suc n + m ≡ suc (n + m) = omega arith in rw more (drop_both n m bs)
+    let more : suc n + m ≡ suc (n + m) = omega arith in
+    ap (λ k. drop k (b ∷ bs)) more ∙ drop_both n m bs
 
 -- What the first characters, so many, and the bytes before a place are to each other.
 pub record IsFrontOf (set : Charset) (text : List ℕ) (count at : ℕ) : Type 0 where
@@ -56,7 +50,7 @@ front_more set text count at code len joins h e within heads =
     let next = sym h.behind ∙ heads in
     record {
       within = within;
-      before = subst (λ t. Spells set (take (count + 1) codes) t) (sym (take_both at len text))
+      before = subst (λ t. Spells set (take (count + 1) codes) t) (sym (take-add at len text))
           (subst (λ c. Spells set c (take at text ++ take len (drop at text)))
           (sym (take_next count codes code _ next))
           (joins set (take count codes) (code ∷ []) (take at text) (take len (drop at text)) h.before

@@ -1,5 +1,5 @@
 -- The piece that begins a text, found in a window over its first codes.
-use Rattle.std.proofs.Common.{◌≡◌, ◌⊎◌, ℕ, zero, suc, ◌+◌, ◌-◌, ◌≤◌, ◌<◌, min, true, List, [], ◌∷◌, ◌++◌, length, length-take, length-drop, append-nil, take, drop, Option, Some, option_map, refl, sym, ap, subst, ◌∙◌, inl, inr, arith}
+use Rattle.std.proofs.Common.{◌≡◌, ◌⊎◌, ℕ, zero, suc, ◌+◌, ◌-◌, ◌≤◌, ◌<◌, min, true, List, [], ◌∷◌, ◌++◌, length, length-take, length-drop, append-nil, take, drop, slice_index_or, Option, Some, option_map, refl, sym, ap, subst, ◌∙◌, inl, inr, arith}
 use Rattle.std.specs.FinMap as map
 use Rattle.std.specs.List.{Contains, flat_map}
 use Rattle.std.specs.Option.{option_map_or}
@@ -190,3 +190,45 @@ one_code set kind table code is step =
     (first_piece set kind table code 1 [] [] (elements_of table (family_of kind) (code ∷ [])) step
     one (omega arith) refl refl).elements
     ∙ append-nil (elements_of table (family_of kind) (code ∷ []))
+
+-- The piece that begins codes of the set: the longest contraction of the table.
+pub code_joined : (set : Charset) (kind : UcaKind) (table : ElementTable) (len : ℕ)
+    (codes behind : List ℕ) (elements piece : List Element) →
+    ((contractions : List (List ℕ)) (code : ℕ) (rest : List ℕ) →
+    pieces contractions (code ∷ rest)
+    ≡ take (piece_len contractions (code ∷ rest)) (code ∷ rest)
+    ∷ pieces contractions (drop (piece_len contractions (code ∷ rest)) (code ∷ rest))) →
+    ((entries : Entries) (contractions : List (List ℕ)) (text : List ℕ) (len : ℕ)
+    (elements : List Element) → AreContractionsAt entries contractions text →
+    IsLongest entries text len elements → piece_len contractions text ≡ len) →
+    AreContractionsAt table.entries (contractions_of table.entries) codes →
+    is_of_set set codes ≡ true → IsLongest table.entries codes len elements → piece ≡ elements →
+    behind ≡ drop len codes → IsFirstPiece (uca_elements set kind table) codes piece behind
+code_joined set kind table len [] behind elements piece step longest at all found p b =
+    let two = found.is_contraction in let within = found.within in absurd (omega arith)
+code_joined set kind table len (c ∷ cs) behind elements piece step longest at all found p b =
+    let two = found.is_contraction in
+    first_piece set kind table c len cs behind piece step
+    (longest table.entries (set_contractions set table.entries) (c ∷ cs) len elements
+    (set_at set table.entries (c ∷ cs) at all) found) (omega arith)
+    (entry_elements table kind (take len (c ∷ cs)) elements found.entry ∙ sym p) b
+
+-- Or the first of them.
+pub code_alone : (set : Charset) (kind : UcaKind) (table : ElementTable) (codes behind : List ℕ)
+    (piece : List Element) →
+    ((contractions : List (List ℕ)) (code : ℕ) (rest : List ℕ) →
+    pieces contractions (code ∷ rest)
+    ≡ take (piece_len contractions (code ∷ rest)) (code ∷ rest)
+    ∷ pieces contractions (drop (piece_len contractions (code ∷ rest)) (code ∷ rest))) →
+    ((entries : Entries) (contractions : List (List ℕ)) (text : List ℕ) →
+    AreContractionsAt entries contractions text → HasNoLonger entries text 1 →
+    piece_len contractions text ≡ 1) →
+    AreContractionsAt table.entries (contractions_of table.entries) codes →
+    is_of_set set codes ≡ true → HasNoLonger table.entries codes 1 → 1 ≤ length codes →
+    piece ≡ elements_of table (family_of kind) (slice_index_or codes 0 0 ∷ []) →
+    behind ≡ drop 1 codes → IsFirstPiece (uca_elements set kind table) codes piece behind
+code_alone set kind table [] behind piece step none at all found some p b = absurd (omega arith)
+code_alone set kind table (c ∷ cs) behind piece step none at all found some p b =
+    first_piece set kind table c 1 cs behind piece step
+    (none table.entries (set_contractions set table.entries) (c ∷ cs)
+    (set_at set table.entries (c ∷ cs) at all) found) (omega arith) (sym p) b

@@ -144,6 +144,12 @@ last_none contractions last more none (inl e) = e
 last_none contractions last more none (inr across) =
     nothing_in (last ++ across.more) contractions none across.joined
 
+enough_at : (k : ℕ) (weights kept more rest : List ℕ) → weights ≡ kept ++ [] → rest ≡ more →
+    (k ≤ length weights) ⊎ (more ≡ []) → (k ≤ length kept) ⊎ (rest ≡ [])
+enough_at k weights kept more rest e d (inl le) =
+    inl (subst (λ l. k ≤ length l) (e ∙ append-nil kept) le)
+enough_at k weights kept more rest e d (inr none) = inr (d ∙ none)
+
 enough_by : (set : Charset) (kind : UcaKind) (table : ElementTable) (k : ℕ) (codes : List ℕ) →
     HasWeightPerChar (uca_meaning set kind table) → AreCharsOf set codes →
     (h : IsFrontList (set_contractions set table.entries) (elements_of table (family_of kind)) 1 k
@@ -159,12 +165,9 @@ enough_by set kind table k codes weigh chars h =
     let whole : uca_list set kind table 1 (h.last ++ drop k codes) ≡ flat_map f (drop k codes) =
     ap (λ last. uca_list set kind table 1 (last ++ drop k codes)) gone
     ∙ flat_by set kind table weigh.0 (drop k codes) in
-    at front whole (flat_map-enough f k codes (all_weigh set kind table weigh codes chars))
-  where
-    at : {weights kept more rest : List ℕ} → weights ≡ kept ++ [] → rest ≡ more →
-        (k ≤ length weights) ⊎ (more ≡ []) → (k ≤ length kept) ⊎ (rest ≡ [])
-    at {weights} {kept} e d (inl le) = inl (subst (λ l. k ≤ length l) (e ∙ append-nil kept) le)
-    at e d (inr none) = inr (d ∙ none)
+    enough_at k (flat_map f (take k codes)) h.kept (flat_map f (drop k codes))
+    (uca_list set kind table 1 (h.last ++ drop k codes)) front whole
+    (flat_map-enough f k codes (all_weigh set kind table weigh codes chars))
 
 enough_cases : (set : Charset) (kind : UcaKind) (table : ElementTable) (k : ℕ) (codes : List ℕ)
     (all : Bool) → weighs set (uca_list set kind table 1) (set_contractions set table.entries) ≡ all →

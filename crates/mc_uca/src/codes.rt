@@ -53,7 +53,8 @@ pub(crate) fn front_codes<E: Encoding>(text: &[u8], count: u32) -> &[u8]
     for _ in 0..count {
         match next_in::<E>(&text[at..]) {
             CharAt::Char { len, .. } => at += len,
-            CharAt::End | CharAt::Bad => return text,
+            CharAt::End => return text,
+            CharAt::Bad => return text,
         }
     }
     &text[..at]

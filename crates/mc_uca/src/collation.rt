@@ -25,14 +25,14 @@ use std::cmp::Ordering;
 pub struct UcaCollation {
     weigher: Weigher,
     space: u32,
-    weighs: bool,
+    each_weighs: bool,
     tails: Vec<Weights>,
     ghost sound: { IsSound weigher.keys },
     ghost fits: { IsTrue (space_fits (pad_of weigher.kind)
         (uca_list weigher.charset weigher.kind weigher.keys 1 (0x20 ∷ []))) },
     ghost space_is: { space ≡ space_by (pad_of weigher.kind)
         (uca_list weigher.charset weigher.kind weigher.keys 1 (0x20 ∷ [])) },
-    ghost weighs_is: { weighs ≡ weighs weigher.charset
+    ghost weighs_is: { each_weighs ≡ weighs weigher.charset
         (uca_list weigher.charset weigher.kind weigher.keys 1)
         (set_contractions weigher.charset weigher.keys.entries) },
     ghost tails_are: { tails.items ≡ tails_of
@@ -62,7 +62,7 @@ impl UcaCollation {
         let weigher = Weigher::new(alloc, charset, kind, keys)?;
         keys_law(&weigher.keys);
         let space = weigher.space()?;
-        let weighs = weigher.weighs();
+        let each_weighs = weigher.weighs();
         let tails = weigher.tails(alloc)?;
         if tails.len() > u32::MAX as usize {
             return Err(UcaFault::NoMemory);
@@ -70,7 +70,7 @@ impl UcaCollation {
         Ok(UcaCollation {
             weigher,
             space,
-            weighs,
+            each_weighs,
             tails,
         })
     }
@@ -118,7 +118,7 @@ impl Collation for UcaCollation {
     }
 
     fn floor(&self, k: u32) -> u32 {
-        if self.weighs { k } else { 0 }
+        if self.each_weighs { k } else { 0 }
     }
 
     fn tail_count(&self) -> u32 {

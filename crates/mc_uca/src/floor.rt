@@ -2,7 +2,7 @@ ghost use Rattle.mc_charset.specs.Chars.{code_points};
 ghost use Rattle.mc_order.specs.Floor.{each_below, weighs, weighs_if_char};
 ghost use Rattle.mc_order.specs.Tails.{has_members};
 ghost use Rattle.mc_uca.specs.Weighing.{set_contractions, uca_list};
-ghost use Rattle.std.specs.Prelude.{◌≡◌};
+ghost use Rattle.std.specs.Prelude.{◌≡◌, ◌≤◌};
 
 use crate::tails::is_of_set;
 use crate::weigher::Weigher;
@@ -13,6 +13,7 @@ const CODE_POINTS: u32 = 0x110000;
 
 impl Weigher {
     /// Whether the set has no contractions, and each of its characters a weight on the first level.
+    #[tactic(auto, using(crate::proofs::Filters::weighing))]
     pub(crate) fn weighs(&self) -> bool
         ensures { result ≡ weighs self.now.charset
             (uca_list self.now.charset self.now.kind self.now.keys 1)
@@ -37,6 +38,7 @@ impl Weigher {
     }
 
     /// Whether each character of the set has a weight on the first level.
+    #[tactic(auto, using(crate::proofs::Filters::searches))]
     fn each_weighs(&self) -> bool
         ensures { result ≡ each_below code_points (weighs_if_char self.now.charset
             (uca_list self.now.charset self.now.kind self.now.keys 1)) }

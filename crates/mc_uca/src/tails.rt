@@ -2,9 +2,11 @@ ghost use Rattle.mc_allkeys.specs.Table.{contractions_of};
 ghost use Rattle.mc_order.specs.Tails.{fronts, insert_list, proper_prefixes, tails_of};
 ghost use Rattle.mc_uca.specs.Inserts.{tails_with};
 ghost use Rattle.mc_uca.specs.Weighing.{is_of_set, set_contractions, uca_list};
-ghost use Rattle.std.specs.Prelude.{◌≡◌, ◌≤◌, true, length, IfOk, OnOk};
+ghost use Rattle.std.specs.Prelude.{◌≡◌, ◌≤◌, ◌<◌, ◌+◌, ℕ, ◌∷◌, [], true, drop, filter, length};
+ghost use Rattle.std.specs.Prelude.{IfOk, OnOk};
 
 use crate::weigher::Weigher;
+use mc_allkeys::longest_law;
 use mc_base::{NoMemory, Weights};
 use mc_charset::{Charset, has_char};
 use mc_order::{Pad, compare_lists};
@@ -31,12 +33,32 @@ impl Weigher {
         let mut place = self.keys.contraction_count();
         while place > 0 {
             place -= 1;
-            let text = self.keys.contraction(place);
-            if is_of_set(self.charset, text) {
-                self.put_tails(alloc, text, &mut tails)?;
-            }
+            self.put_tails_at(alloc, place, &mut tails)?;
         }
         Ok(tails)
+    }
+
+    /// Puts the tails of the contraction at a place among those of the contractions behind it.
+    fn put_tails_at(
+        &self,
+        alloc: Global,
+        place: u32,
+        tails: &mut Vec<Weights>,
+    ) -> Result<(), NoMemory>
+        requires { place < length (contractions_of self.now.keys.entries) }
+        ensures { let from = λ (k : ℕ).
+            tails_of (uca_list self.now.charset self.now.kind self.now.keys 1)
+            (filter (is_of_set self.now.charset)
+            (drop k (contractions_of self.now.keys.entries))) in
+            OnOk result (tails.old.items ≡ from (place + 1) → tails.new.items ≡ from place) }
+    {
+        longest_law();
+        let text = self.keys.contraction(place);
+        if !is_of_set(self.charset, text) {
+            return Ok(());
+        }
+        self.put_tails(alloc, text, tails)?;
+        Ok(())
     }
 
     /// Puts the first lists of a contraction's proper prefixes among tails.
@@ -55,12 +77,29 @@ impl Weigher {
         let mut len = text.len();
         while len > 1 {
             len -= 1;
-            let list = self.first_list(alloc, &text[..len])?;
-            if !list.is_empty() {
-                insert_list(tails, list)?;
-            }
+            self.put_tail(alloc, &text[..len], tails)?;
         }
         Ok(())
+    }
+
+    /// Puts the first list of a prefix among tails, if it has a weight.
+    #[tactic(auto, using(crate::proofs::TailSteps::one_prefix))]
+    fn put_tail(
+        &self,
+        alloc: Global,
+        prefix: &[u32],
+        tails: &mut Vec<Weights>,
+    ) -> Result<(), NoMemory>
+        requires { is_of_set self.now.charset prefix.now ≡ true }
+        ensures { OnOk result (tails.new.items
+            ≡ tails_with (uca_list self.now.charset self.now.kind self.now.keys 1)
+            (prefix.now ∷ []) tails.old.items) }
+    {
+        let list = self.first_list(alloc, prefix)?;
+        if list.is_empty() {
+            return Ok(());
+        }
+        insert_list(tails, list)
     }
 }
 
