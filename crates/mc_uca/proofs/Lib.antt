@@ -5,3 +5,4 @@ pub mod PieceFacts
 pub mod TailSteps
 pub mod Filters
 pub mod Fronts
+pub mod SetLaw
