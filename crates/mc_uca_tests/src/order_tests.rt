@@ -185,13 +185,19 @@ fn characters_and_lists(rt: HostRuntime) {
         assert!(rt; !uca.same_char(0x41, 0x73), "other letters");
     }
     assert!(rt; uca.tail_count() == 4, "a, b, ab, abc as ab and c");
-    assert!(rt; uca.tail(3) == [0x1CA2, 0x1C7A].as_slice(), "the list of abc");
+    assert!(rt;
+        uca.tail(3) == [0x1CA2, 0x1C7A].as_slice(),
+        "the list of abc"
+    );
     assert!(rt; uca.floor(5) == 0, "there are contractions");
     let mut list = Weights::new(rt.alloc());
     if is_well_formed(uca.charset(), b"abcd") {
         let put = uca.put_list(b"abcd", Some(3), &mut list);
         assert!(rt; put.is_ok(), "memory is there");
-        assert!(rt; list.as_slice() == [0x1CA2, 0x1C7A].as_slice(), "the first three of abcd");
+        assert!(rt;
+            list.as_slice() == [0x1CA2, 0x1C7A].as_slice(),
+            "the first three of abcd"
+        );
     }
 }
 
