@@ -30,14 +30,13 @@ of_chars set (c ∷ cs) h =
     (is_there (spell set c) parts.0.0 parts.0.1) (of_chars set cs parts.1)
 
 module _ (is : (contractions : List (List ℕ)) (codes : List ℕ) →
-        IsPieceLen contractions codes (piece_len contractions codes))
+    IsPieceLen contractions codes (piece_len contractions codes))
     (one : (contractions : List (List ℕ)) (codes : List ℕ) (len : ℕ) →
-        IsPieceLen contractions codes len → piece_len contractions codes ≡ len)
+    IsPieceLen contractions codes len → piece_len contractions codes ≡ len)
     (step : (contractions : List (List ℕ)) (code : ℕ) (rest : List ℕ) →
-        pieces contractions (code ∷ rest)
-        ≡ take (piece_len contractions (code ∷ rest)) (code ∷ rest)
-        ∷ pieces contractions (drop (piece_len contractions (code ∷ rest)) (code ∷ rest))) where
-
+    pieces contractions (code ∷ rest)
+    ≡ take (piece_len contractions (code ∷ rest)) (code ∷ rest)
+    ∷ pieces contractions (drop (piece_len contractions (code ∷ rest)) (code ∷ rest))) where
   reached_in : (set : Charset) (entries : Entries) (codes : List ℕ) (len : ℕ) →
       is_of_set set codes ≡ true →
       (len ≡ 1) ⊎ ((len ≤ length codes) × Contains (contractions_of entries) (take len codes)) →

@@ -1,8 +1,7 @@
 -- The contractions of a set, among those of the table.
-use Rattle.std.proofs.Common.{◌≡◌, ◌⊎◌, ℕ, zero, suc, ◌≤◌, ◌&&◌, Bool, true, false, cond, List, [], ◌∷◌, length, take, filter, refl, ap, ◌∙◌, inl, inr}
-use Rattle.std.specs.FinMap as map
+use Rattle.std.proofs.Common.{◌≡◌, ◌⊎◌, ℕ, zero, suc, ◌&&◌, Bool, true, false, cond, List, []}
+use Rattle.std.proofs.Common.{◌∷◌, take, filter, refl, ap, ◌∙◌, inl, inr}
 use Rattle.std.specs.List.{Contains, list_all}
-use Rattle.std.proofs.lemmas.List.{take-take}
 use Rattle.mc_charset.specs.declared.charset.Charset.{Charset}
 use Rattle.mc_order.specs.Ascending.{Among, Among-from_Contains, Contains-from_Among}
 use Rattle.mc_allkeys.specs.Longest.{AreContractionsAt}

@@ -1,7 +1,9 @@
 -- The Unicode collations keep the laws.
-use Rattle.std.proofs.Common.{◌≡◌, ◌≢◌, ◌⊎◌, ℕ, zero, suc, ◌-◌, ◌<◌, ◌≤◌, ◌==◌, ◌^◌, ◌&&◌, Bool, true, false, cond, IsTrue, List, [], ◌∷◌, ◌++◌, Option, Some, None, length, take, drop, get_or, append-nil, refl, sym, ap, subst, ◌∙◌, inl, inr, arith}
-use Rattle.std.specs.Prelude.{slice_index_or, if◌then◌else◌}
-use Rattle.std.specs.List.{All, Contains, flat_map, list_all}
+use Rattle.std.proofs.Common.{◌≡◌, ◌≢◌, ◌⊎◌, ℕ, suc, ◌<◌, ◌≤◌, ◌==◌, ◌&&◌, Bool, true, false}
+use Rattle.std.proofs.Common.{cond, IsTrue, List, [], ◌∷◌, ◌++◌, Option, Some, None, length, take}
+use Rattle.std.proofs.Common.{drop, append-nil, refl, sym, ap, subst, ◌∙◌, inl, inr, arith}
+use Rattle.std.specs.Prelude.{slice_index_or}
+use Rattle.std.specs.List.{All, Contains, flat_map}
 use Rattle.std.specs.Option.{is_some}
 use Rattle.std.proofs.lemmas.List.Elements.{All-nil, All-cons, Contains-get_or}
 use Rattle.mc_charset.specs.declared.charset.Charset.{Charset}
@@ -11,17 +13,17 @@ use Rattle.mc_order.specs.Characters.{AreCharsOf-parts, AreCharsOf-cons, AreChar
 use Rattle.mc_order.specs.Floor.{weighs}
 use Rattle.mc_order.specs.FloorLaw.{weighs_decides, KeepsFloor-from}
 use Rattle.mc_order.specs.Laws.{KeepsSpace, KeepsSettings, IsWeight, IsCut, HasWeightPerChar}
-use Rattle.mc_order.specs.Laws.{KeepsContractions, KeepsTails, IsLawful}
-use Rattle.mc_order.specs.Meaning.{IsCharOf, AreCharsOf, IsTail}
+use Rattle.mc_order.specs.Laws.{KeepsContractions, IsLawful}
+use Rattle.mc_order.specs.Meaning.{AreCharsOf}
 use Rattle.mc_order.specs.TailsLaw.{KeepsTails-from}
 use Rattle.mc_order.specs.WithoutContractions.{flat_map-enough}
-use Rattle.mc_order.specs.declared.pad.Pad.TheVariants.{PadSpace, NoPad}
+use Rattle.mc_order.specs.declared.pad.Pad.TheVariants.{NoPad}
 use Rattle.mc_allkeys.proofs.LevelLemmas.{list-front, list-alone, list-weights}
 use Rattle.mc_allkeys.proofs.LongestLemmas.{all-contractions}
 use Rattle.mc_allkeys.specs.Fronts.{IsAcross}
-use Rattle.mc_allkeys.specs.Levels.{IsFrontList, level_list}
+use Rattle.mc_allkeys.specs.Levels.{IsFrontList}
 use Rattle.mc_allkeys.specs.Sound.{IsSound}
-use Rattle.mc_allkeys.specs.Table.{ElementTable, Entries, contractions_of}
+use Rattle.mc_allkeys.specs.Table.{ElementTable, Entries}
 use Rattle.mc_rules.proofs.WeightLemmas.{small_elements}
 use Rattle.mc_rules.specs.Elements.{elements_of}
 use Rattle.mc_uca.specs.Kind.{family_of, pad_of, levels_of}
@@ -83,8 +85,9 @@ bounds : (set : Charset) (kind : UcaKind) (table : ElementTable) → IsSound tab
     (codes : List ℕ) → AreCharsOf set codes →
     All (IsWeight (uca_meaning set kind table)) (uca_list set kind table level codes)
 bounds set kind table sound level codes chars =
-    let each = list-weights (set_contractions set table.entries) (elements_of table (family_of kind))
-    level codes (small_elements table sound (family_of kind)) (are_codes set codes chars) in
+    let each = list-weights (set_contractions set table.entries)
+    (elements_of table (family_of kind)) level codes
+    (small_elements table sound (family_of kind)) (are_codes set codes chars) in
     λ k d lt. weight_fits set kind table _ (each k d lt)
 
 -- What is left of the first characters is nothing, or the list of a contraction's front.
@@ -170,7 +173,8 @@ enough_by set kind table k codes weigh chars h =
     (flat_map-enough f k codes (all_weigh set kind table weigh codes chars))
 
 enough_cases : (set : Charset) (kind : UcaKind) (table : ElementTable) (k : ℕ) (codes : List ℕ)
-    (all : Bool) → weighs set (uca_list set kind table 1) (set_contractions set table.entries) ≡ all →
+    (all : Bool) →
+    weighs set (uca_list set kind table 1) (set_contractions set table.entries) ≡ all →
     AreCharsOf set codes →
     (h : IsFrontList (set_contractions set table.entries) (elements_of table (family_of kind)) 1 k
     codes) → (cond all k 0 ≤ length h.kept)
@@ -217,7 +221,8 @@ one_contraction set entries text h =
 contractions : (set : Charset) (kind : UcaKind) (table : ElementTable) →
     KeepsContractions (uca_meaning set kind table)
 contractions set kind table = λ k d lt.
-    one_contraction set table.entries _ (Contains-get_or (set_contractions set table.entries) k d lt)
+    one_contraction set table.entries _
+    (Contains-get_or (set_contractions set table.entries) k d lt)
 
 -- A sound table, one to three levels and, where texts are padded, one weight of the space.
 pub uca_lawful : (set : Charset) (kind : UcaKind) (table : ElementTable) → 1 ≤ levels_of kind →

@@ -9,8 +9,8 @@ ghost use Rattle.mc_uca.specs.UcaMeaning.{space_by, space_fits, uca_meaning};
 ghost use Rattle.mc_uca.specs.Weighing.{set_contractions, uca_list};
 ghost use Rattle.std.specs.Prelude.{◌≡◌, ◌≤◌, ◌<◌, ◌^◌, ◌∷◌, [], length, IsTrue, MatchResult};
 
-use crate::{UcaFault, UcaKind};
 use crate::weigher::Weigher;
+use crate::{UcaFault, UcaKind};
 use mc_allkeys::{Keys, keys_law};
 use mc_base::{NoMemory, Weights};
 use mc_charset::{Charset, chars_law};

@@ -6,9 +6,7 @@ ghost use Rattle.mc_uca.specs.UcaMeaning.{uca_meaning};
 ghost use Rattle.std.specs.Prelude.{◌≡◌, ℕ, List};
 
 use crate::weigher::Weigher;
-use mc_charset::{
-    Ascii, Binary, Charset, Encoding, Latin1, Ucs2, Utf8mb3, Utf8mb4, Utf16, Utf32,
-};
+use mc_charset::{Ascii, Binary, Charset, Encoding, Latin1, Ucs2, Utf8mb3, Utf8mb4, Utf16, Utf32};
 use mc_order::compare_streams;
 use std::cmp::Ordering;
 

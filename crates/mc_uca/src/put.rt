@@ -6,9 +6,7 @@ ghost use Rattle.std.specs.Prelude.{◌≡◌, ◌++◌, OnOk, OnErr};
 use crate::codes::front_codes;
 use crate::weigher::Weigher;
 use mc_base::{NoMemory, Weights};
-use mc_charset::{
-    Ascii, Binary, Charset, Encoding, Latin1, Ucs2, Utf8mb3, Utf8mb4, Utf16, Utf32,
-};
+use mc_charset::{Ascii, Binary, Charset, Encoding, Latin1, Ucs2, Utf8mb3, Utf8mb4, Utf16, Utf32};
 use mc_order::put_weights;
 
 impl Weigher {

@@ -1,5 +1,4 @@
-use Rattle.std.proofs.Common.{sym, ap, ◌∙◌, length-drop, arith}
-use Rattle.mc_charset.specs.Chars.{chars}
+use Rattle.std.proofs.Common.{length-drop, arith}
 use Rattle.mc_uca.proofs.CodeLemmas.{rest_is}
 use Rattle.mc_uca.proofs.Fronts.{front_none, front_more, front_ends}
 use Rattle.mc_uca.proofs.codes.front_codes.Goals as goal

@@ -1,5 +1,4 @@
-use Rattle.std.proofs.Common.{ap, ◌∙◌, true}
-use Rattle.std.specs.List.{list_all}
+use Rattle.std.proofs.Common.{ap, ◌∙◌}
 use Rattle.std.specs.Option.{is_some}
 use Rattle.mc_charset.specs.Chars.{spell}
 use Rattle.mc_uca.proofs.CodeLemmas.{rest_is, all_behind}

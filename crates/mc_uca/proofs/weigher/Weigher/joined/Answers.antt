@@ -1,4 +1,4 @@
-use Rattle.std.proofs.Common.{refl, sym, ◌∙◌, arith}
+use Rattle.std.proofs.Common.{arith}
 use Rattle.mc_uca.proofs.PieceFacts.{Laws, alone_by_reach, alone_by_window, joined_by_window}
 use Rattle.mc_uca.proofs.weigher.Weigher.joined.Goals as goal
 

@@ -1,4 +1,4 @@
-use Rattle.std.proofs.Common.{◌+◌, ◌≤◌, true, length, drop, filter, sym, ap, ◌∙◌, arith}
+use Rattle.std.proofs.Common.{◌+◌, drop, filter, sym, ap, ◌∙◌, arith}
 use Rattle.mc_order.specs.Tails.{tails_of}
 use Rattle.mc_allkeys.specs.Table.{contractions_of}
 use Rattle.mc_uca.specs.Weighing.{is_of_set, uca_list}
