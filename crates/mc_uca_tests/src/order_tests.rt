@@ -1,6 +1,6 @@
 use mc_allkeys::read_allkeys;
 use mc_base::Weights;
-use mc_charset::{Charset, has_char, is_well_formed};
+use mc_charset::{Charset, is_well_formed};
 use mc_order::Collation;
 use mc_uca::{UcaCollation, UcaFault, UcaKind};
 use std::alloc::Global;
@@ -160,58 +160,85 @@ fn order_of<C: Collation>(collation: &C, a: &[u8], b: &[u8]) -> Option<Ordering>
     }
 }
 
+/// What the first row shows, of those on so many levels, that isn't so.
+fn first_wrong<C: Collation>(collation: &C, levels: u8) -> Option<&'static str> {
+    for row in &ROWS {
+        if row.levels == levels && order_of(collation, row.a, row.b) != Some(row.order) {
+            return Some(row.why);
+        }
+    }
+    None
+}
+
+/// The first list of a text's first characters.
+fn list_of<C: Collation>(alloc: Global, collation: &C, text: &[u8], first: u32) -> Option<Weights> {
+    let mut list = Weights::new(alloc);
+    if is_well_formed(collation.charset(), text)
+        && collation.put_list(text, Some(first), &mut list).is_ok()
+    {
+        Some(list)
+    } else {
+        None
+    }
+}
+
+/// Whether a list of one level is this one.
+fn is_list(list: Option<Weights>, weights: &[u32]) -> bool {
+    match list {
+        Some(list) => list.as_slice() == weights,
+        None => false,
+    }
+}
+
+/// What isn't so of the collation of one level.
+fn wrong_of<C: Collation>(alloc: Global, uca: &C) -> Option<&'static str> {
+    if uca.tail_count() != 4 || uca.tail(3) != [0x1CA2, 0x1C7A].as_slice() {
+        return Some("the tails are the lists of a, b, ab and abc, and abc is ab and c");
+    }
+    if uca.floor(5) != 0 {
+        return Some("there are contractions");
+    }
+    if !is_list(list_of(alloc, uca, b"abcd", 3), &[0x1CA2, 0x1C7A]) {
+        return Some("the first three characters of abcd are ab and c");
+    }
+    None
+}
+
 #[test]
 fn texts_are_ordered(rt: HostRuntime) {
-    for row in &ROWS {
-        match collation(rt.alloc(), row.levels) {
-            Some(uca) => {
-                let order = order_of(&uca, row.a, row.b);
-                assert!(rt; order == Some(row.order), "{}", row.why);
-            }
-            None => assert!(rt; false, "the collation is made"),
-        }
+    for levels in 1..4 {
+        let wrong = match collation(rt.alloc(), levels) {
+            Some(uca) => first_wrong(&uca, levels),
+            None => Some("the collation is made"),
+        };
+        assert!(rt; wrong.is_none(), "{}", wrong.unwrap_or(""));
     }
 }
 
 #[test]
 fn characters_and_lists(rt: HostRuntime) {
-    let Some(uca) = collation(rt.alloc(), 1) else {
-        assert!(rt; false, "the collation is made");
-        return;
+    let wrong = match collation(rt.alloc(), 1) {
+        Some(uca) => wrong_of(rt.alloc(), &uca),
+        None => Some("the collation is made"),
     };
-    if has_char(uca.charset(), 0x41) && has_char(uca.charset(), 0x73) {
-        assert!(rt; !uca.safe(0x41), "A is like a, which begins contractions");
-        assert!(rt; uca.safe(0x73), "s begins none");
-        assert!(rt; !uca.same_char(0x41, 0x73), "other letters");
-    }
-    assert!(rt; uca.tail_count() == 4, "a, b, ab, abc as ab and c");
-    assert!(rt;
-        uca.tail(3) == [0x1CA2, 0x1C7A].as_slice(),
-        "the list of abc"
-    );
-    assert!(rt; uca.floor(5) == 0, "there are contractions");
-    let mut list = Weights::new(rt.alloc());
-    if is_well_formed(uca.charset(), b"abcd") {
-        let put = uca.put_list(b"abcd", Some(3), &mut list);
-        assert!(rt; put.is_ok(), "memory is there");
-        assert!(rt;
-            list.as_slice() == [0x1CA2, 0x1C7A].as_slice(),
-            "the first three of abcd"
-        );
+    assert!(rt; wrong.is_none(), "{}", wrong.unwrap_or(""));
+}
+
+/// Whether a table whose space has two weights is refused, where texts are padded.
+fn is_space_refused(alloc: Global) -> bool {
+    match read_allkeys(alloc, b"0020 ; [.0209.0020.0002][.0001.0020.0002]") {
+        Ok(keys) => match UcaCollation::new(alloc, UcaKind::Uca4, Charset::Utf8mb4, keys) {
+            Err(UcaFault::SpaceWeight) => true,
+            _ => false,
+        },
+        Err(_) => false,
     }
 }
 
 #[test]
 fn a_space_of_two_weights(rt: HostRuntime) {
-    match read_allkeys(rt.alloc(), b"0020 ; [.0209.0020.0002][.0001.0020.0002]") {
-        Ok(keys) => {
-            let made = UcaCollation::new(rt.alloc(), UcaKind::Uca4, Charset::Utf8mb4, keys);
-            let refused = match made {
-                Err(UcaFault::SpaceWeight) => true,
-                _ => false,
-            };
-            assert!(rt; refused, "texts are padded, and the space has two weights");
-        }
-        Err(_) => assert!(rt; false, "the table is read"),
-    }
+    assert!(rt;
+        is_space_refused(rt.alloc()),
+        "the space's weight doesn't fit"
+    );
 }
