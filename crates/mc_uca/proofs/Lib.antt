@@ -6,3 +6,6 @@ pub mod TailSteps
 pub mod Filters
 pub mod Fronts
 pub mod SetLaw
+pub mod InnerFacts
+pub mod FlatOrder
+pub mod Splits

@@ -4,6 +4,7 @@ pub mod UcaMeaning
 pub mod SetContractions
 pub mod UcaLaws
 pub mod Reach
+pub mod Inner
 pub mod Streams
 pub mod Inserts
 pub mod Fault

@@ -33,7 +33,8 @@ use Rattle.mc_uca.specs.Weighing.{is_of_set, set_contractions, uca_list}
 use Rattle.mc_uca.specs.declared.kind.UcaKind.{UcaKind}
 use Rattle.mc_uca.specs.declared.kind.UcaKind.TheVariants.{Uca4, Uca520, Uca9}
 
-unpadded : (kind : UcaKind) → 1 < levels_of kind → pad_of kind ≡ NoPad
+-- More levels than one only without padding.
+pub unpadded : (kind : UcaKind) → 1 < levels_of kind → pad_of kind ≡ NoPad
 unpadded Uca4 more = absurd (omega arith)
 unpadded Uca520 more = absurd (omega arith)
 unpadded (Uca9 levels) more = refl

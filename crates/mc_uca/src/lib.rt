@@ -6,10 +6,11 @@
 //! laws of `mc_order`. `UcaCollation::new(alloc, UcaKind::Uca4, Charset::Utf8mb4, keys)` is the one
 //! of a table `keys`.
 //!
-//! Read `kind`, `fault` and `collation`; then `weigher`, which has the table, `reach`, `codes` and
-//! `piece`, by which a text is cut, `pending`, `text` and `stream`, which give its elements and its
-//! weights one after the other, `flat` and `weights`, level by level; then `compare`, `chars`,
-//! `put`, and `code_elements`, `tails`, `floor` and `space`, by which a collation is made.
+//! Read `kind`, `fault` and `collation`; then `weigher`, which has the table, `reach`, `inner`,
+//! `codes` and `piece`, by which a text is cut, `pending`, `text` and `stream`, which give its
+//! elements and its weights one after the other, `flat` and `weights`, level by level; then
+//! `compare`, `chars`, `put`, and `code_elements`, `tails`, `floor` and `space`, by which a
+//! collation is made.
 #![tactic(auto)]
 
 mod chars;
@@ -20,6 +21,7 @@ mod compare;
 mod fault;
 mod flat;
 mod floor;
+mod inner;
 mod kind;
 mod laws;
 mod pending;

@@ -1,11 +1,13 @@
 ghost use Rattle.mc_allkeys.specs.Table.{contractions_of};
 ghost use Rattle.mc_rules.specs.Elements.{elements_of};
+ghost use Rattle.mc_uca.specs.Inner.{MarksInner};
 ghost use Rattle.mc_uca.specs.Kind.{family_of, levels_of};
 ghost use Rattle.mc_uca.specs.Reach.{Reaches};
 ghost use Rattle.mc_uca.specs.Streams.{pending_left};
 ghost use Rattle.std.specs.Prelude.{◌≡◌, ◌≤◌, ◌∷◌, [], IfOk};
 
 use crate::UcaKind;
+use crate::inner::Inner;
 use crate::pending::Pending;
 use crate::reach::Reach;
 use mc_allkeys::Keys;
@@ -21,9 +23,11 @@ pub(crate) struct Weigher {
     pub(crate) kind: UcaKind,
     pub(crate) keys: Keys,
     pub(crate) reach: Reach,
+    pub(crate) inner: Inner,
     ghost some_level: { 1 ≤ levels_of kind },
     ghost few_levels: { levels_of kind ≤ 3 },
     ghost reaches: { Reaches (contractions_of keys.entries) reach },
+    ghost inners: { MarksInner (contractions_of keys.entries) inner },
 }
 
 impl Weigher {
@@ -41,11 +45,13 @@ impl Weigher {
         ensures keys { IfOk result (λ weigher. weigher.keys ≡ keys) }
     {
         let reach = Reach::of(alloc, &keys)?;
+        let inner = Inner::of(alloc, &keys)?;
         Ok(Weigher {
             charset,
             kind,
             keys,
             reach,
+            inner,
         })
     }
 
