@@ -8,7 +8,7 @@ use Rattle.std.specs.Option.{is_some}
 use Rattle.std.proofs.lemmas.List.Elements.{All-nil, All-cons, Contains-get_or}
 use Rattle.mc_charset.specs.declared.charset.Charset.{Charset}
 use Rattle.mc_charset.specs.Chars.{spell}
-use Rattle.mc_charset.proofs.CodePoints.{spelled_code_point}
+use Rattle.mc_charset.specs.CodePoints.{spelled_code_point}
 use Rattle.mc_order.specs.Characters.{AreCharsOf-parts, AreCharsOf-cons, AreCharsOf-none}
 use Rattle.mc_order.specs.Floor.{weighs}
 use Rattle.mc_order.specs.FloorLaw.{weighs_decides, KeepsFloor-from}
