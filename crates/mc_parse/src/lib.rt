@@ -1,0 +1,11 @@
+//! The parser of the statements: from tokens to a tree, or to the place of the first fault.
+//!
+//! [`parse`] is the one call. What comes of a list of tokens is stated in `specs/Outcome` and, case
+//! by case, in `Parsed` of `mc_ast`.
+#![tactic(auto)]
+
+mod fault;
+mod parser;
+
+pub use fault::ParseFault;
+pub use parser::parse;
