@@ -99,6 +99,19 @@ module _ {K R A S T V : Type 0} (l : Language K R A S T V) (d : IsSound l) where
       → IsTooDeep l after more tokens v
   link_too_deep p o lt = chain_too_deep l d _ _ _ _ _ _ _ _ _ p o (omega (arith, lt))
 
+  -- The same, where the tokens that the link took are looked at too.
+  pub link_fails_far : {X : Type 0} {after : Ahead K} {n : ℕ} {more : R} {value : List X → V}
+      {links : List X} {tokens front rest v : List S}
+      → Chain l after n more value links tokens front rest → (o : Fails l after more rest v)
+      → n ≤ length o.front + 1 → Fails l after more tokens v
+  link_fails_far p o lt = chain_fails l _ _ _ _ _ _ _ _ _ p o lt
+
+  pub link_too_deep_far : {X : Type 0} {after : Ahead K} {n : ℕ} {more : R} {value : List X → V}
+      {links : List X} {tokens front rest v : List S}
+      → Chain l after n more value links tokens front rest → (o : IsTooDeep l after more rest v)
+      → n ≤ length o.front + 1 → IsTooDeep l after more tokens v
+  link_too_deep_far p o lt = chain_too_deep l d _ _ _ _ _ _ _ _ _ p o lt
+
   module _ (c : Completions K R T) (f : Complete l c) where
     -- No place wants the next token.
     pub no_place : {after : Ahead K} {n : ℕ} {r : R} {place : Place K R A}
