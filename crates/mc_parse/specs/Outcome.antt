@@ -12,3 +12,10 @@ IsParsed tokens end (Ok tree) = IsTreeWithin tokens tree
 IsParsed tokens end (Err (NoReading n)) = IsStuckAt tokens end n
 IsParsed tokens end (Err (TooDeep n)) = IsTooDeepAt tokens n
 IsParsed tokens end (Err NoMemory) = Unit {0}
+
+-- Memory did not run out.
+abbrev pub IsTold : Result Statement ParseFault → Type 0
+IsTold (Ok tree) = Unit {0}
+IsTold (Err (NoReading n)) = Unit {0}
+IsTold (Err (TooDeep n)) = Unit {0}
+IsTold (Err NoMemory) = ⊥
