@@ -4,6 +4,7 @@ pub mod Grouping
 pub mod Meaning
 pub mod Trees
 pub mod Parsed
+pub mod Texts
 pub mod Alike
 pub mod Written
 pub mod Operators
