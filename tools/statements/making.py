@@ -6,7 +6,8 @@ from .chart import Chart
 from .grammar import GRAMMAR, RESERVED, START, Step, Token
 
 MARKS = "( ) , . * + - % = <> != < <= > >= <=>".split()
-WORDS = sorted(RESERVED) + "a b t f cast count trim substring weight_string escape offset mod".split()
+CALLS = "f cast count trim substring weight_string".split()
+WORDS = [*sorted(RESERVED), *CALLS, "a", "b", "t", "escape", "offset"]
 OTHERS = "hex concat _latin1 _utf8 _nope convert".split()
 
 

@@ -67,7 +67,11 @@ fn answer_statement<B: Book>(
     ensures kept { IfErr result (λ _. session.new ≡ session.old) }
 {
     match read_statement(alloc, script, statement) {
-        Ok(tree) => tree_said(alloc, catalog, book, session, script, &tree),
+        Ok(tree) => {
+            let said = tree_said(alloc, catalog, book, session, script, &tree);
+            drop(tree);
+            said
+        }
         Err(Unanswered::Refused(refusal)) => Ok(Said::Refused(refusal)),
         Err(Unanswered::NoMemory) => Err(NoMemory),
     }
