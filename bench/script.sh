@@ -60,8 +60,10 @@ echo "$((2 * count)) comparisons: mycoll $two s, $(ratio "$two" "$one") times as
 
 make_long_statements $((count / 2)) "$folder/long.sql"
 "$top/mycoll" "$folder/long.sql" >"$folder/out" || [ $? = 1 ]
-[ "$(sort -u "$folder/out")" = "ERROR 9099: not built yet" ] || { head -n 3 "$folder/out"; exit 1; }
+[ "$(sort -u "$folder/out")" = "ERROR 9099: not built yet" ] ||
+    { head -n 3 "$folder/out"; exit 1; }
 bytes=$(wc -c <"$folder/long.sql")
 long=$(seconds "$top/mycoll" "$folder/long.sql")
 sorted=$(seconds sort "$folder/long.sql")
-echo "$((count / 2)) statements of 40 tokens, $bytes bytes: mycoll $long s, sort $sorted s; mycoll / sort $(ratio "$long" "$sorted")"
+echo "$((count / 2)) statements of 40 tokens, $bytes bytes: mycoll $long s, sort $sorted s;" \
+    "mycoll / sort $(ratio "$long" "$sorted")"
