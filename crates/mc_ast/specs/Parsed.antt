@@ -1,6 +1,6 @@
--- What comes of the tokens of a statement: their tree, or the place where they cannot be read on, or
--- the one where they stand too deep. Aho, Lam, Sethi and Ullman, Compilers, 4.1.3, where a parser
--- finds an error as soon as one can be seen.
+-- What comes of the tokens of a statement: their tree, or the place where they cannot be read on,
+-- or the one where they stand too deep. Aho, Lam, Sethi and Ullman, Compilers, 4.1.3, where a
+-- parser finds an error as soon as one can be seen.
 use Rattle.std.specs.Prelude.{◌≡◌, ℕ, List, [], ◌∷◌, map}
 use Rattle.mc_token.specs.declared.lexeme.Token.{Token}
 use Rattle.mc_grammar.specs.Answers.{HasNoReading, HasDeepReading}

@@ -60,8 +60,8 @@ read_said w s script (Ok tree) = tree_said w s script tree
 read_said w s script (Err refusal) = Refused refusal
 
 -- A statement is answered so in a state, and leaves this one, as it was, since it changes nothing:
--- its syntax is refused, else its tree is answered. An answer is what is said; `Answer` is the table
--- among what may be said.
+-- its syntax is refused, else its tree is answered. An answer is what is said; `Answer` is the
+-- table among what may be said.
 pub record IsAnswer (w : World) (before : State) (script : List ℕ) (statement : Span) (said : Said)
     (after : State) : Type 0 where
   pub read : Result Statement Refusal

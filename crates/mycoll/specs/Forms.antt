@@ -1,4 +1,5 @@
--- The value that an expression of a built form has, or its refusal: MySQL 8.0 manual, 10.8.1, 12.4.2 and 12.8.
+-- The value that an expression of a built form has, or its refusal: MySQL 8.0 manual, 10.8.1,
+-- 12.4.2 and 12.8.
 use Rattle.std.specs.Prelude.{ℕ, Bool, List, [], ◌∷◌, Option, Some, None, Result, Ok, Err}
 use Rattle.std.specs.Prelude.{if◌then◌else◌, option_and_then, pos}
 use Rattle.std.specs.Option.{option_or}

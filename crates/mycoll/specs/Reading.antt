@@ -1,5 +1,5 @@
--- How a statement reads: as a tree, or with the refusal of its syntax. First its tokens are refused,
--- then what they read.
+-- How a statement reads: as a tree, or with the refusal of its syntax. First its tokens are
+-- refused, then what they read.
 use Rattle.std.specs.Prelude.{◌≡◌, ℕ, List, Option, Some, None, Result, Ok, Err}
 use Rattle.mc_ast.specs.declared.statement.Statement.{Statement}
 use Rattle.mc_base.specs.declared.refusal.Refusal.{Refusal}

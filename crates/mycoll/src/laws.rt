@@ -10,9 +10,9 @@ ghost use Rattle.mycoll.specs.declared.said.Said.{Said};
 
 use mc_parse::outcomes_are_unique;
 
-/// The law of answers: a statement has at most one answer, and leaves at most one state. So a script
-/// has at most one list of answers, and the answers to some first statements are the first ones of
-/// it. That there is an answer `run` alone shows, by giving it.
+/// The law of answers: a statement has at most one answer, and leaves at most one state. So a
+/// script has at most one list of answers, and the answers to some first statements are the first
+/// ones of it. That there is an answer `run` alone shows, by giving it.
 pub fn answers_law()
     ensures once { (w : World) (before : State) (script : List ℕ) (statement : Span)
         (said other : Said) (after behind : State)
