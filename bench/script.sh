@@ -1,7 +1,8 @@
 #!/bin/bash
 # How long the proved program takes over a long script: 200,000 comparisons (about 6 MB) and
 # 400,000, beside `cat` and `sort` over the same bytes, the quickest of seven runs each. Aim: twice
-# the statements take at most 2.2 times as long.
+# the statements take at most 2.2 times as long. Then half as many statements of 40 tokens, which are
+# read and not answered, beside `sort`.
 #
 #     bench/script.sh [STATEMENTS]
 set -e
@@ -18,11 +19,21 @@ make_script() { # how many statements, a file
     }' >"$2"
 }
 
+make_long_statements() { # how many statements of 40 tokens, a file
+    awk -v n="$1" 'BEGIN {
+        for (i = 0; i < n; i++) {
+            printf "SELECT a + 1 * (b - 2), f(c, \047x%06d\047), NOT d BETWEEN 1 AND 2,", i
+            printf " e LIKE \047y%06d\047 ESCAPE \047!\047 FROM t WHERE g = \047z\047", i
+            print " ORDER BY h DESC;"
+        }
+    }' >"$2"
+}
+
 seconds() { # runs a command seven times, and prints how many seconds the quickest run took
     local started took best=
     for _ in 1 2 3 4 5 6 7; do
         started=$(date +%s%N)
-        "$@" >"$folder/out"
+        "$@" >"$folder/out" || [ $? = 1 ]
         took=$(($(date +%s%N) - started))
         if [ -z "$best" ] || [ "$took" -lt "$best" ]; then best=$took; fi
     done
@@ -46,3 +57,13 @@ plain=$(seconds cat "$folder/one.sql")
 sorted=$(seconds sort "$folder/one.sql")
 echo "$count comparisons, $bytes bytes: mycoll $one s, cat $plain s, sort $sorted s; mycoll / sort $(ratio "$one" "$sorted")"
 echo "$((2 * count)) comparisons: mycoll $two s, $(ratio "$two" "$one") times as long"
+
+make_long_statements $((count / 2)) "$folder/long.sql"
+"$top/mycoll" "$folder/long.sql" >"$folder/out" || [ $? = 1 ]
+[ "$(sort -u "$folder/out")" = "ERROR 9099: not built yet" ] ||
+    { head -n 3 "$folder/out"; exit 1; }
+bytes=$(wc -c <"$folder/long.sql")
+long=$(seconds "$top/mycoll" "$folder/long.sql")
+sorted=$(seconds sort "$folder/long.sql")
+echo "$((count / 2)) statements of 40 tokens, $bytes bytes: mycoll $long s, sort $sorted s;" \
+    "mycoll / sort $(ratio "$long" "$sorted")"

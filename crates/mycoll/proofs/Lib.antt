@@ -6,6 +6,8 @@ pub mod Texts
 pub mod OneAnswer
 pub mod OwnText
 pub mod Told
+pub mod ItemSteps
+pub mod ReadSteps
 pub mod RunSteps
 pub mod ValueSteps
 pub mod StandardFacts
