@@ -1,0 +1,4 @@
+pub mod Place
+pub mod Language
+pub mod Read
+pub mod Signs
