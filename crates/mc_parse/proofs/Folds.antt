@@ -21,7 +21,7 @@ use Rattle.mc_parse.proofs.Spans.{span_from-append}
 use Rattle.mc_parse.proofs.Ways.{sound, longer}
 
 -- What stands before the same rest is the same.
-append_same : (f g rest : List Token) → f ++ rest ≡ g ++ rest → f ≡ g
+pub append_same : (f g rest : List Token) → f ++ rest ≡ g ++ rest → f ≡ g
 append_same [] [] rest e = refl
 append_same [] (y ∷ g) rest e =
     let h : length rest ≡ length (y ∷ (g ++ rest)) = ap (λ (x : List Token). length x) e in

@@ -2,6 +2,8 @@ pub mod TokenKinds
 pub mod Spans
 pub mod Ways
 pub mod Folds
+pub mod Listing
 pub mod Groups
 pub mod NameWays
 pub mod OperatorWays
+pub mod TruthWays

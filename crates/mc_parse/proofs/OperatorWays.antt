@@ -1,5 +1,5 @@
 -- The ways through the functions that read operators on values.
-use Rattle.std.proofs.Common.{◌≡◌, refl, sym, ap, ◌∙◌, subst, inl, inr, ℕ, zero, suc, ◌+◌, ◌≤◌, Bool, not, ◌&&◌, List, [], ◌∷◌, ◌++◌, IsTrue, length, arith, codes}
+use Rattle.std.proofs.Common.{◌≡◌, refl, sym, ap, ◌∙◌, subst, inl, inr, ℕ, zero, suc, ◌+◌, ◌<◌, ◌≤◌, Bool, not, ◌&&◌, List, [], ◌∷◌, ◌++◌, IsTrue, length, arith, codes}
 use Rattle.mc_base.specs.declared.span.Span.{Span}
 use Rattle.mc_token.specs.declared.lexeme.Lexeme.TheVariants as lexeme
 use Rattle.mc_token.specs.declared.lexeme.Symbol.TheVariants.{Minus, Plus, Star, Percent}
@@ -24,7 +24,7 @@ use Rattle.mc_parse.specs.Place.{is_missing, are_missing, span_at, IsNext}
 use Rattle.mc_parse.specs.Read.{IsRead, IsFault, as_operand, IsOperand, IsFolded}
 use Rattle.mc_parse.specs.Signs.{factor_signs, summand_signs, IsFactorSign, IsSummandSign}
 use Rattle.mc_parse.proofs.Spans.{span_from-one, span_of-one}
-use Rattle.mc_parse.proofs.Ways.{sound, both_missing, sees_missing, is_read, is_fault, is_missed, is_barred_here, is_link_fault, read_takes}
+use Rattle.mc_parse.proofs.Ways.{sound, both_missing, sees_missing, is_read, is_fault, is_missed, is_barred_here, is_link_fault, read_takes, link_shorter}
 use Rattle.mc_parse.proofs.Folds.{IsFolding, folds_none, folds_link, folds_all, grouped-last, under-last}
 use Rattle.mc_parse.proofs.Groups.{group_read}
 
@@ -100,7 +100,7 @@ pub coll_read : (below : ℕ) (tokens v w : List Token) (x y : Found)
 unfolding behind keyword_of is_intro is_called
 coll_read below tokens v w x y p f =
     group_read rule.coll rule.prim rule.more_collates rule.collated p f (omega arith) refl refl refl
-    refl (λ span links. refl)
+    refl (λ span links e h. ap (λ (z : Operand). operand z) (sym e))
 
 pub coll_first_missed : (below : ℕ) (tokens : List Token) (fault : Fault)
     → IsFault (behind rule.prim) rule.prim below tokens fault
@@ -312,3 +312,218 @@ factor_read below tokens rest v w first now next op x p (inr (inr (inr n))) o h 
     mod_here below tokens n.0.span v w first now next x
     (subst (λ (z : List Token). IsMultiplying below tokens z first now) n.0.same p) o
     (h ∙ ap (λ (z : ArithOp). whole (from_to now.extent x.extent) (Arith z now.expr x.expr)) n.1)
+
+pub factors_read : (below : ℕ) (tokens rest : List Token) (first now : Operand)
+    → IsMultiplying below tokens rest first now → IsTrue (are_missing factor_signs rest)
+    → IsFolded (behind rule.more_negs) 1 rule.more_negs operations grouped below tokens rest first now
+unfolding behind keyword_of is_intro is_called
+factors_read below tokens rest first now p h =
+    folds_all p (choose language sound (sees_missing factor_signs rest h)) refl (omega arith)
+
+times_missed : (below : ℕ) (s : Span) (v : List Token) (fault : Fault)
+    → IsFault (behind rule.neg) rule.neg below v fault
+    → IsFault (behind rule.more_negs) rule.more_negs below
+    (record { span = s; kind = lexeme.Sym Star } ∷ v) fault
+unfolding behind keyword_of is_intro is_called
+times_missed below s v fault o =
+    is_fault (take_token language sound (choose language sound (sees_next language sound _)) refl)
+    o refl refl (omega arith)
+
+div_missed : (below : ℕ) (s : Span) (v : List Token) (fault : Fault)
+    → IsFault (behind rule.neg) rule.neg below v fault
+    → IsFault (behind rule.more_negs) rule.more_negs below
+    (record { span = s; kind = lexeme.Word (codes "div") } ∷ v) fault
+unfolding behind keyword_of is_intro is_called
+div_missed below s v fault o =
+    is_fault (take_token language sound (choose language sound (sees_next language sound _)) refl)
+    o refl refl (omega arith)
+
+percent_missed : (below : ℕ) (s : Span) (v : List Token) (fault : Fault)
+    → IsFault (behind rule.neg) rule.neg below v fault
+    → IsFault (behind rule.more_negs) rule.more_negs below
+    (record { span = s; kind = lexeme.Sym Percent } ∷ v) fault
+unfolding behind keyword_of is_intro is_called
+percent_missed below s v fault o =
+    is_fault (take_token language sound (choose language sound (sees_next language sound _)) refl)
+    o refl refl (omega arith)
+
+mod_missed : (below : ℕ) (s : Span) (v : List Token) (fault : Fault)
+    → IsFault (behind rule.neg) rule.neg below v fault
+    → IsFault (behind rule.more_negs) rule.more_negs below
+    (record { span = s; kind = lexeme.Word (codes "mod") } ∷ v) fault
+unfolding behind keyword_of is_intro is_called
+mod_missed below s v fault o =
+    is_fault (take_token language sound (choose language sound (sees_next language sound _)) refl)
+    o refl refl (omega arith)
+
+pub factor_missed : (below : ℕ) (tokens rest v : List Token) (first now : Operand) (op : ArithOp)
+    (fault : Fault) → IsMultiplying below tokens rest first now → IsFactorSign op rest v
+    → IsFault (behind rule.neg) rule.neg below v fault
+    → IsFault (behind rule.more_negs) rule.more_negs below tokens fault
+factor_missed below tokens rest v first now op fault p sign o =
+    is_link_fault p.chain (by_sign sign) (omega arith)
+  where
+    by_sign : IsFactorSign op rest v → IsFault (behind rule.more_negs) rule.more_negs below rest fault
+    by_sign (inl n) = subst (λ (x : List Token). IsFault (behind rule.more_negs) rule.more_negs
+        below x fault) (sym n.0.same) (times_missed below n.0.span v fault o)
+    by_sign (inr (inl n)) = subst (λ (x : List Token). IsFault (behind rule.more_negs)
+        rule.more_negs below x fault) (sym n.0.same) (div_missed below n.0.span v fault o)
+    by_sign (inr (inr (inl n))) = subst (λ (x : List Token). IsFault (behind rule.more_negs)
+        rule.more_negs below x fault) (sym n.0.same) (percent_missed below n.0.span v fault o)
+    by_sign (inr (inr (inr n))) = subst (λ (x : List Token). IsFault (behind rule.more_negs)
+        rule.more_negs below x fault) (sym n.0.same) (mod_missed below n.0.span v fault o)
+
+pub factor_shorter : (op : ArithOp) {tokens v w : List Token} {below : ℕ} {x : Found}
+    → IsFactorSign op tokens v → IsOperand rule.neg below v w x → length w < length tokens
+factor_shorter op (inl n) o = link_shorter n.0 o
+factor_shorter op (inr (inl n)) o = link_shorter n.0 o
+factor_shorter op (inr (inr (inl n))) o = link_shorter n.0 o
+factor_shorter op (inr (inr (inr n))) o = link_shorter n.0 o
+
+pub prod_read : (below : ℕ) (tokens v w : List Token) (x y : Found)
+    → IsOperand rule.neg below tokens v x
+    → IsFolded (behind rule.more_negs) 1 rule.more_negs operations grouped below v w
+    (as_operand x) (as_operand y)
+    → IsOperand rule.prod below tokens w y
+unfolding behind keyword_of is_intro is_called
+prod_read below tokens v w x y p f =
+    group_read rule.prod rule.neg rule.more_negs rule.negs p f (omega arith) refl refl refl refl
+    (λ span links e h. ap (λ (z : Operand). operand z) (sym e))
+
+pub prod_first_missed : (below : ℕ) (tokens : List Token) (fault : Fault)
+    → IsFault (behind rule.neg) rule.neg below tokens fault
+    → IsFault (behind rule.prod) rule.prod below tokens fault
+unfolding behind keyword_of is_intro is_called
+prod_first_missed below tokens fault o =
+    is_fault (enter language (behind rule.prod) _ _) o refl refl (omega arith)
+
+pub prod_more_missed : (below : ℕ) (tokens v : List Token) (x : Found) (fault : Fault)
+    → IsOperand rule.neg below tokens v x
+    → IsFault (behind rule.more_negs) rule.more_negs below v fault
+    → IsFault (behind rule.prod) rule.prod below tokens fault
+unfolding behind keyword_of is_intro is_called
+prod_more_missed below tokens v x fault p o =
+    is_fault (read_rule language sound (enter language (behind rule.prod) _ _) p.done refl refl
+    (omega arith)) o refl refl (omega arith)
+
+-- Summands
+
+-- Links of summands are read.
+abbrev pub IsAdding : ℕ → List Token → List Token → Operand → Operand → Type 0
+IsAdding below tokens rest first now =
+    IsFolding (behind rule.more_prods) 1 rule.more_prods operations grouped below tokens rest first now
+
+plus_here : (below : ℕ) (tokens : List Token) (s : Span) (v w : List Token)
+    (first now next : Operand) (x : Found)
+    → IsAdding below tokens (record { span = s; kind = lexeme.Sym Plus } ∷ v) first now
+    → IsOperand rule.prod below v w x
+    → next ≡ whole (from_to now.extent x.extent) (Arith Add now.expr x.expr)
+    → IsAdding below tokens w first next
+unfolding behind keyword_of is_intro is_called
+plus_here below tokens s v w first now next x p o h =
+    folds_link (link_of Add x) p
+    (read_rule language sound (take_token language sound
+    (choose language sound (sees_next language sound _)) refl) o.done refl refl (omega arith))
+    (λ later others. refl) (λ os e. grouped_next first now next Add x os h e)
+    (grouped_stands now next Add x (record { span = s; kind = lexeme.Sym Plus }) h o
+    (read_takes o refl)) (omega arith)
+
+less_here : (below : ℕ) (tokens : List Token) (s : Span) (v w : List Token)
+    (first now next : Operand) (x : Found)
+    → IsAdding below tokens (record { span = s; kind = lexeme.Sym Minus } ∷ v) first now
+    → IsOperand rule.prod below v w x
+    → next ≡ whole (from_to now.extent x.extent) (Arith Sub now.expr x.expr)
+    → IsAdding below tokens w first next
+unfolding behind keyword_of is_intro is_called
+less_here below tokens s v w first now next x p o h =
+    folds_link (link_of Sub x) p
+    (read_rule language sound (take_token language sound
+    (choose language sound (sees_next language sound _)) refl) o.done refl refl (omega arith))
+    (λ later others. refl) (λ os e. grouped_next first now next Sub x os h e)
+    (grouped_stands now next Sub x (record { span = s; kind = lexeme.Sym Minus }) h o
+    (read_takes o refl)) (omega arith)
+
+pub summand_read : (below : ℕ) (tokens rest v w : List Token) (first now next : Operand)
+    (op : ArithOp) (x : Found) → IsAdding below tokens rest first now
+    → IsSummandSign op rest v → IsOperand rule.prod below v w x
+    → next ≡ whole (from_to now.extent x.extent) (Arith op now.expr x.expr)
+    → IsAdding below tokens w first next
+summand_read below tokens rest v w first now next op x p (inl n) o h =
+    plus_here below tokens n.0.span v w first now next x
+    (subst (λ (z : List Token). IsAdding below tokens z first now) n.0.same p) o
+    (h ∙ ap (λ (z : ArithOp). whole (from_to now.extent x.extent) (Arith z now.expr x.expr)) n.1)
+summand_read below tokens rest v w first now next op x p (inr n) o h =
+    less_here below tokens n.0.span v w first now next x
+    (subst (λ (z : List Token). IsAdding below tokens z first now) n.0.same p) o
+    (h ∙ ap (λ (z : ArithOp). whole (from_to now.extent x.extent) (Arith z now.expr x.expr)) n.1)
+
+pub summands_read : (below : ℕ) (tokens rest : List Token) (first now : Operand)
+    → IsAdding below tokens rest first now → IsTrue (are_missing summand_signs rest)
+    → IsFolded (behind rule.more_prods) 1 rule.more_prods operations grouped below tokens rest first
+    now
+unfolding behind keyword_of is_intro is_called
+summands_read below tokens rest first now p h =
+    folds_all p (choose language sound (sees_missing summand_signs rest h)) refl (omega arith)
+
+plus_missed : (below : ℕ) (s : Span) (v : List Token) (fault : Fault)
+    → IsFault (behind rule.prod) rule.prod below v fault
+    → IsFault (behind rule.more_prods) rule.more_prods below
+    (record { span = s; kind = lexeme.Sym Plus } ∷ v) fault
+unfolding behind keyword_of is_intro is_called
+plus_missed below s v fault o =
+    is_fault (take_token language sound (choose language sound (sees_next language sound _)) refl)
+    o refl refl (omega arith)
+
+less_missed : (below : ℕ) (s : Span) (v : List Token) (fault : Fault)
+    → IsFault (behind rule.prod) rule.prod below v fault
+    → IsFault (behind rule.more_prods) rule.more_prods below
+    (record { span = s; kind = lexeme.Sym Minus } ∷ v) fault
+unfolding behind keyword_of is_intro is_called
+less_missed below s v fault o =
+    is_fault (take_token language sound (choose language sound (sees_next language sound _)) refl)
+    o refl refl (omega arith)
+
+pub summand_missed : (below : ℕ) (tokens rest v : List Token) (first now : Operand) (op : ArithOp)
+    (fault : Fault) → IsAdding below tokens rest first now → IsSummandSign op rest v
+    → IsFault (behind rule.prod) rule.prod below v fault
+    → IsFault (behind rule.more_prods) rule.more_prods below tokens fault
+summand_missed below tokens rest v first now op fault p sign o =
+    is_link_fault p.chain (by_sign sign) (omega arith)
+  where
+    by_sign : IsSummandSign op rest v
+        → IsFault (behind rule.more_prods) rule.more_prods below rest fault
+    by_sign (inl n) = subst (λ (x : List Token). IsFault (behind rule.more_prods) rule.more_prods
+        below x fault) (sym n.0.same) (plus_missed below n.0.span v fault o)
+    by_sign (inr n) = subst (λ (x : List Token). IsFault (behind rule.more_prods) rule.more_prods
+        below x fault) (sym n.0.same) (less_missed below n.0.span v fault o)
+
+pub summand_shorter : (op : ArithOp) {tokens v w : List Token} {below : ℕ} {x : Found}
+    → IsSummandSign op tokens v → IsOperand rule.prod below v w x → length w < length tokens
+summand_shorter op (inl n) o = link_shorter n.0 o
+summand_shorter op (inr n) o = link_shorter n.0 o
+
+pub sum_read : (below : ℕ) (tokens v w : List Token) (x y : Found)
+    → IsOperand rule.prod below tokens v x
+    → IsFolded (behind rule.more_prods) 1 rule.more_prods operations grouped below v w
+    (as_operand x) (as_operand y)
+    → IsOperand rule.sum below tokens w y
+unfolding behind keyword_of is_intro is_called
+sum_read below tokens v w x y p f =
+    group_read rule.sum rule.prod rule.more_prods rule.prods p f (omega arith) refl refl refl refl
+    (λ span links e h. ap (λ (z : Operand). operand z) (sym e))
+
+pub sum_first_missed : (below : ℕ) (tokens : List Token) (fault : Fault)
+    → IsFault (behind rule.prod) rule.prod below tokens fault
+    → IsFault (behind rule.sum) rule.sum below tokens fault
+unfolding behind keyword_of is_intro is_called
+sum_first_missed below tokens fault o =
+    is_fault (enter language (behind rule.sum) _ _) o refl refl (omega arith)
+
+pub sum_more_missed : (below : ℕ) (tokens v : List Token) (x : Found) (fault : Fault)
+    → IsOperand rule.prod below tokens v x
+    → IsFault (behind rule.more_prods) rule.more_prods below v fault
+    → IsFault (behind rule.sum) rule.sum below tokens fault
+unfolding behind keyword_of is_intro is_called
+sum_more_missed below tokens v x fault p o =
+    is_fault (read_rule language sound (enter language (behind rule.sum) _ _) p.done refl refl
+    (omega arith)) o refl refl (omega arith)

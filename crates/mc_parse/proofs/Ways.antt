@@ -203,3 +203,14 @@ pub link_shorter : {x : Lexeme} {tokens v rest : List Token} {after : Ahead (Adm
 link_shorter {tokens = tokens} {v = v} {rest = rest} n o =
     let h : length v < length tokens = next_shorter n in
     let k : length rest ≤ length v = read_shorter o in omega (arith, h, k)
+
+-- A token that is next is not missing.
+pub begun : {x : Lexeme} {tokens rest : List Token} (k : Class) → IsNext x tokens rest
+    → IsTrue (is_lexeme_of k x) → IsTrue (not (is_missing k tokens))
+begun {x = x} k n h =
+    subst (λ (ts : List Token). IsTrue (not (is_missing k ts))) (sym n.same)
+    (twice (is_lexeme_of k x) h)
+  where
+    twice : (b : Bool) → IsTrue b → IsTrue (not (not b))
+    twice true g = refl
+    twice false g = cc

@@ -1,4 +1,6 @@
 pub mod Place
 pub mod Language
 pub mod Read
+pub mod Lists
 pub mod Signs
+pub mod Comparisons

@@ -6,7 +6,7 @@ ghost use Rattle.mc_parse.specs.Language.{behind};
 ghost use Rattle.mc_parse.specs.Read.{IsFault, IsOperand};
 
 use crate::fault::Fault;
-use crate::operand::Operand;
+use crate::operand::{Operand, instead};
 use crate::place::Place;
 use crate::predicate::or;
 use std::alloc::Global;
@@ -27,7 +27,7 @@ pub(crate) fn call<'a>(
         return Err(Fault::NoMemory);
     }
     match or(alloc, below - 1, false, place) {
-        Ok(_) => Err(Fault::NoMemory),
+        Ok((operand, _)) => Err(instead(operand, Fault::NoMemory)),
         Err(_) => Err(Fault::NoMemory),
     }
 }

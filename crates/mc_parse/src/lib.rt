@@ -9,6 +9,7 @@
 #![tactic(auto)]
 
 mod call;
+mod comparison;
 mod fault;
 mod operand;
 mod operators;

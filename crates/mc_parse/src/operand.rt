@@ -85,3 +85,24 @@ pub(crate) fn negative(alloc: Global, sign: Span, operand: Operand) -> Result<Op
     let expr = Boxed::new(alloc, operand.expr)?;
     Ok(whole(span, Form::Neg(expr)))
 }
+
+/// Two operands and the XOR between them.
+pub(crate) fn xored(alloc: Global, left: Operand, right: Operand) -> Result<Operand, NoMemory>
+    ensures { IfOk result (λ x. as_operand x ≡
+        whole (from_to left.extent right.extent) (form.Xor left.expr right.expr)) }
+{
+    let span = from_to(left.extent, right.extent);
+    let left = Boxed::new(alloc, left.expr)?;
+    let right = Boxed::new(alloc, right.expr)?;
+    Ok(whole(span, Form::Xor(left, right)))
+}
+
+/// An operand and the NOT before it, which stands at `word`.
+pub(crate) fn opposite(alloc: Global, word: Span, operand: Operand) -> Result<Operand, NoMemory>
+    ensures { IfOk result (λ x. as_operand x ≡
+        whole (from_to word operand.extent) (form.Not operand.expr)) }
+{
+    let span = from_to(word, operand.extent);
+    let expr = Boxed::new(alloc, operand.expr)?;
+    Ok(whole(span, Form::Not(expr)))
+}

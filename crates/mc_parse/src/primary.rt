@@ -7,7 +7,7 @@ ghost use Rattle.mc_parse.specs.Read.{IsFault, IsOperand};
 
 use crate::call::call;
 use crate::fault::Fault;
-use crate::operand::Operand;
+use crate::operand::{Operand, instead};
 use crate::place::Place;
 use std::alloc::Global;
 
@@ -24,7 +24,7 @@ pub(crate) fn prim<'a>(
         place.entry.tokens.now fault) }
 {
     match call(alloc, below, place) {
-        Ok(_) => Err(Fault::NoMemory),
+        Ok((operand, _)) => Err(instead(operand, Fault::NoMemory)),
         Err(_) => Err(Fault::NoMemory),
     }
 }
