@@ -7,3 +7,13 @@ pub mod Groups
 pub mod NameWays
 pub mod OperatorWays
 pub mod TruthWays
+pub mod ClauseSteps
+pub mod Options
+pub mod CommaLists
+pub mod Headings
+pub mod Items
+pub mod Sources
+pub mod Limits
+pub mod Statements
+pub mod Parsed
+pub mod OneOutcome
