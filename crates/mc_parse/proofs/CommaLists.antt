@@ -1,6 +1,7 @@
 -- The ways through lists with commas.
 use Rattle.std.proofs.Common.{◌≡◌, refl, sym, ap, ◌∙◌, subst, ℕ, ◌<◌, ◌≤◌, List, [], ◌∷◌, ◌++◌, map}
-use Rattle.std.proofs.Common.{true, false, IsTrue, codes, length, length-append, append_assoc, append-nil, arith}
+use Rattle.std.proofs.Common.{true, false, IsTrue, codes, length, length-append, append_assoc}
+use Rattle.std.proofs.Common.{append-nil, arith}
 use Rattle.std.proofs.lemmas.List.{map-append}
 use Rattle.mc_base.specs.declared.span.Span.{Span}
 use Rattle.mc_token.specs.Keywords.{keyword_of}
@@ -149,8 +150,12 @@ pub fewer_left : {after : Ahead (Admitted Class)} {r : Rule} {value : Value}
     (rest v w : List Token) → IsNext (Sym Comma) rest v
     → Done language after 1 (at nest_limit r) v w value → length w < length rest
 fewer_left rest v w n o =
-    omega (arith, ap (λ (ts : List Token). length ts) n.same,
-    ap (λ (ts : List Token). length ts) o.split, length-append o.front w)
+    omega (
+      arith,
+      ap (λ (ts : List Token). length ts) n.same,
+      ap (λ (ts : List Token). length ts) o.split,
+      length-append o.front w,
+    )
 
 -- The three lists.
 unfoldable pub more_item : CommaList Item Item

@@ -1,6 +1,7 @@
 -- The ways through lists with two words before them: ORDER BY and GROUP BY.
 use Rattle.std.proofs.Common.{◌≡◌, refl, sym, ap, ◌∙◌, subst, ℕ, ◌<◌, ◌≤◌, List, [], ◌∷◌, ◌++◌, map}
-use Rattle.std.proofs.Common.{true, false, IsTrue, codes, length, length-append, append_assoc, append-nil, arith}
+use Rattle.std.proofs.Common.{true, false, IsTrue, codes, length, length-append, append_assoc}
+use Rattle.std.proofs.Common.{append-nil, arith}
 use Rattle.std.proofs.lemmas.List.{map-append}
 use Rattle.mc_base.specs.declared.span.Span.{Span}
 use Rattle.mc_token.specs.Keywords.{keyword_of}

@@ -1,5 +1,6 @@
 -- The ways through an item and its alias, and through a place of ORDER BY.
-use Rattle.std.proofs.Common.{◌≡◌, refl, sym, ap, ◌∙◌, subst, ℕ, ◌≤◌, ◌+◌, Bool, true, false, not, List, [], ◌∷◌}
+use Rattle.std.proofs.Common.{◌≡◌, refl, sym, ap, ◌∙◌, subst, ℕ, ◌≤◌, ◌+◌, Bool, true, false, not}
+use Rattle.std.proofs.Common.{List, [], ◌∷◌}
 use Rattle.std.proofs.Common.{◌++◌, IsTrue, Option, Some, None, codes, length, arith}
 use Rattle.std.proofs.lemmas.Slice.Eq.{bytes_eq-Decides}
 use Rattle.mc_base.specs.declared.span.Span.{Span}
@@ -13,11 +14,13 @@ use Rattle.mc_grammar.proofs.Seeing.{sees_next}
 use Rattle.mc_grammar.proofs.Ways.{choose, take_token, read_rule, read_rule_far}
 use Rattle.mc_sql.specs.Classes.{word, name, is_intro, is_called, is_lexeme_of}
 use Rattle.mc_sql.specs.Nest.{nest_limit}
-use Rattle.mc_sql.specs.Rules.{item, alias_option, no_alias, bare_alias, order, or, direction_option}
+use Rattle.mc_sql.specs.Rules.{item, alias_option, no_alias, bare_alias, order, or}
+use Rattle.mc_sql.specs.Rules.{direction_option}
 use Rattle.mc_ast.specs.declared.expr.Expr.{Expr}
 use Rattle.mc_ast.specs.declared.statement.Item.{Item}
 use Rattle.mc_ast.specs.declared.statement.OrderItem.{OrderItem}
-use Rattle.mc_ast.specs.Values.{lexeme_text, maybe_text, item as an_item, order_item, flag, operand, a_token}
+use Rattle.mc_ast.specs.Values.{lexeme_text, maybe_text, item as an_item, order_item, flag, operand}
+use Rattle.mc_ast.specs.Values.{a_token}
 use Rattle.mc_parse.specs.declared.fault.Fault.{Fault}
 use Rattle.mc_parse.specs.declared.fault.Fault.TheVariants.{NoReading, TooDeep, NoMemory}
 use Rattle.mc_parse.specs.declared.operand.Operand.{Operand as Found}

@@ -1,5 +1,6 @@
 -- The ways through LIMIT.
-use Rattle.std.proofs.Common.{◌≡◌, refl, sym, ap, ◌∙◌, subst, ℕ, ℤ, List, [], ◌∷◌, IsTrue, Option, Some, None}
+use Rattle.std.proofs.Common.{◌≡◌, refl, sym, ap, ◌∙◌, subst, ℕ, ℤ, List, [], ◌∷◌, IsTrue, Option}
+use Rattle.std.proofs.Common.{Some, None}
 use Rattle.std.proofs.Common.{codes, length, arith}
 use Rattle.std.specs.Prelude.{nat_abs}
 use Rattle.mc_base.specs.declared.span.Span.{Span}

@@ -14,7 +14,8 @@ use Rattle.mc_parse.specs.Clauses.{IsClause}
 use Rattle.mc_parse.specs.Language.{language, behind}
 use Rattle.mc_parse.specs.Place.{is_missing, IsNext}
 use Rattle.mc_parse.proofs.Ways.{sound}
-use Rattle.mc_parse.proofs.ClauseSteps.{the_token, clause_read, option_left, one_missing, two_missing}
+use Rattle.mc_parse.proofs.ClauseSteps.{the_token, clause_read, option_left, one_missing}
+use Rattle.mc_parse.proofs.ClauseSteps.{two_missing}
 
 explain_here : (s : Span) (v : List Token)
     → IsClause explain_option (the_token s (Word (codes "explain")) ∷ v) v (flag true)

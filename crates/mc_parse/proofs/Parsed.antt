@@ -1,5 +1,6 @@
 -- What comes of the tokens of a statement, by what a descent says of them.
-use Rattle.std.proofs.Common.{◌≡◌, refl, sym, ap, ◌∙◌, subst, ℕ, ◌≤◌, ◌-◌, List, [], ◌∷◌, ◌++◌, drop}
+use Rattle.std.proofs.Common.{◌≡◌, refl, sym, ap, ◌∙◌, subst, ℕ, ◌≤◌, ◌-◌, List, [], ◌∷◌, ◌++◌}
+use Rattle.std.proofs.Common.{drop}
 use Rattle.std.proofs.Common.{append-nil, length, length-append, map, arith}
 use Rattle.mc_token.specs.declared.lexeme.Token.{Token}
 use Rattle.mc_grammar.specs.Reading.{Forest, IsReading}
@@ -86,14 +87,22 @@ left_behind tokens front rest left e h =
 pub stuck_left : (tokens : List Token) (left : ℕ)
     → FailsAt (behind statement) statement nest_limit tokens left → left ≤ length tokens
 stuck_left tokens left f =
-    omega (arith, ap (λ (ts : List Token). length ts) f.fails.split,
-    length-append f.fails.front f.rest, f.place)
+    omega (
+      arith,
+      ap (λ (ts : List Token). length ts) f.fails.split,
+      length-append f.fails.front f.rest,
+      f.place,
+    )
 
 pub deep_left : (tokens : List Token) (left : ℕ)
     → DeepAt (behind statement) statement nest_limit tokens left → left ≤ length tokens
 deep_left tokens left f =
-    omega (arith, ap (λ (ts : List Token). length ts) f.deep.split,
-    length-append f.deep.front f.rest, f.place)
+    omega (
+      arith,
+      ap (λ (ts : List Token). length ts) f.deep.split,
+      length-append f.deep.front f.rest,
+      f.place,
+    )
 
 -- The descent fails.
 no_further : (tokens rest : List Token)

@@ -1,5 +1,6 @@
 -- The ways through FROM, WHERE and GROUP BY.
-use Rattle.std.proofs.Common.{◌≡◌, refl, sym, ap, ◌∙◌, subst, ℕ, Bool, true, false, List, [], ◌∷◌, IsTrue}
+use Rattle.std.proofs.Common.{◌≡◌, refl, sym, ap, ◌∙◌, subst, ℕ, Bool, true, false, List, [], ◌∷◌}
+use Rattle.std.proofs.Common.{IsTrue}
 use Rattle.std.proofs.Common.{Option, Some, None, codes, length, map, arith}
 use Rattle.std.specs.Option.{option_map}
 use Rattle.mc_base.specs.declared.span.Span.{Span}
@@ -124,10 +125,10 @@ source_read tokens from v w u text before now filter groups n m o e same =
         groups = map (λ x. x.expr) e.members;
       });
       clause = subst (λ (ts : List Token). IsClause a_source ts u (source (Some (record {
-            table = lexeme_text named.token.kind;
-            filter = option_map (λ x. x.expr) o.operand;
-            groups = map (λ x. x.expr) e.members;
-          })))) (sym named.same)
+        table = lexeme_text named.token.kind;
+        filter = option_map (λ x. x.expr) o.operand;
+        groups = map (λ x. x.expr) e.members;
+      })))) (sym named.same)
           (source_here named.span named.token v w u o.operand e.members named.of_class o.clause
           e.clause);
       same = same

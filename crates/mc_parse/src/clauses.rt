@@ -149,11 +149,7 @@ pub(crate) fn order_option<'a>(
 
 /// An expression, which is put to the list.
 #[tactic(auto, using(crate::proofs::Items::or_read))]
-fn push_or<'a>(
-    alloc: Global,
-    place: Place<'a>,
-    groups: &mut List<Expr>,
-) -> Result<Place<'a>, Fault>
+fn push_or<'a>(alloc: Global, place: Place<'a>, groups: &mut List<Expr>) -> Result<Place<'a>, Fault>
     ensures ok { IfOk result (λ rest. HasOne (behind_at false rule.or) rule.or
         (λ x. value.operand x) (λ x. x.expr) place.entry.tokens.now rest.tokens.now groups.old
         groups.new) }
@@ -219,10 +215,7 @@ fn group_option<'a>(
 
 /// [WHERE or]
 #[tactic(auto, using(crate::proofs::Sources::where_read, crate::proofs::Sources::where_left, crate::proofs::Sources::where_fault))]
-fn where_option<'a>(
-    alloc: Global,
-    place: Place<'a>,
-) -> Result<(Option<Expr>, Place<'a>), Fault>
+fn where_option<'a>(alloc: Global, place: Place<'a>) -> Result<(Option<Expr>, Place<'a>), Fault>
     ensures ok { IfOk result (λ found. HasFilter place.entry.tokens.now found.1.tokens.now
         found.0) }
     ensures err { IfErr result (λ fault. IsClauseFault rule.where_option place.entry.tokens.now
@@ -239,11 +232,7 @@ fn where_option<'a>(
 
 /// FROM NAME [WHERE or] [GROUP BY or {, or}], which are put to the statement.
 #[tactic(auto, using(crate::proofs::Sources::source_read, crate::proofs::Sources::source_missed, crate::proofs::Sources::table_missed, crate::proofs::Sources::filter_fault, crate::proofs::Sources::groups_fault))]
-fn source<'a>(
-    alloc: Global,
-    place: Place<'a>,
-    tree: &mut Statement,
-) -> Result<Place<'a>, Fault>
+fn source<'a>(alloc: Global, place: Place<'a>, tree: &mut Statement) -> Result<Place<'a>, Fault>
     ensures ok { IfOk result (λ rest. HasSource rule.source place.entry.tokens.now rest.tokens.now
         tree.old tree.new) }
     ensures err { IfErr result (λ fault. IsClauseFault rule.source place.entry.tokens.now fault) }
@@ -414,9 +403,7 @@ fn offset_option<'a>(first: u64, place: Place<'a>) -> Result<(u64, u64, Place<'a
 
 /// [LIMIT Int [(, | OFFSET) Int]]
 #[tactic(auto, using(crate::proofs::Limits::limit_read, crate::proofs::Limits::limit_left, crate::proofs::Limits::limit_missed, crate::proofs::Limits::offset_fault))]
-pub(crate) fn limit_option<'a>(
-    place: Place<'a>,
-) -> Result<(Option<(u64, u64)>, Place<'a>), Fault>
+pub(crate) fn limit_option<'a>(place: Place<'a>) -> Result<(Option<(u64, u64)>, Place<'a>), Fault>
     ensures ok { IfOk result (λ found. IsClause rule.limit_option place.entry.tokens.now
         found.1.tokens.now (value.limit found.0)) }
     ensures err { IfErr result (λ fault. IsClauseFault rule.limit_option place.entry.tokens.now

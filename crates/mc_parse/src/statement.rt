@@ -63,11 +63,7 @@ fn clauses<'a>(
 
 /// `*` or an item, and all behind it.
 #[tactic(auto, using(crate::proofs::Statements::star_read, crate::proofs::Statements::star_fault, crate::proofs::Statements::items_read, crate::proofs::Statements::item_missed, crate::proofs::Statements::items_missed))]
-fn items<'a>(
-    alloc: Global,
-    place: Place<'a>,
-    tree: &mut Statement,
-) -> Result<Place<'a>, Fault>
+fn items<'a>(alloc: Global, place: Place<'a>, tree: &mut Statement) -> Result<Place<'a>, Fault>
     ensures ok { IfOk result (λ rest. ReadsItems place.entry.tokens.now rest.tokens.now tree.old
         tree.new) }
     ensures err { IfErr result (λ fault. FailsItems place.entry.tokens.now fault) }
