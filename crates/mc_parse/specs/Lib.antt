@@ -1,1 +1,8 @@
+pub mod Place
+pub mod Language
+pub mod Read
+pub mod Lists
+pub mod Signs
+pub mod Comparisons
+pub mod Clauses
 pub mod Outcome

@@ -1,12 +1,28 @@
-//! The parser of the statements: from tokens to a tree, or to the place of the first fault.
+//! The parser: the tree of a list of tokens, or the first token at which the tokens have no reading,
+//! or stand too deep.
 //!
-//! [`parse`] is the one call. What comes of a list of tokens is stated in `specs/Outcome` and, case
-//! by case, in `Parsed` of `mc_ast`; [`outcomes_are_unique`] is the law that it is one thing.
+//! It is a descent by looking ahead, one small function for each rule of the grammar of `mc_sql`:
+//! Aho, Lam, Sethi and Ullman, Compilers, 4.4. `place` is where it stands and what it sees there,
+//! `fault` where it stops. `operators`, `predicate`, `primary` and `call` read expressions, `clauses`
+//! and `statement` the rest; [`parse`] is the one call. What comes of a list of tokens is stated in
+//! `specs/Outcome` and, case by case, in `Parsed` of `mc_ast`; [`outcomes_are_unique`] is the law
+//! that it is one thing.
+//!
+//! The definitions are in `specs/`, in the order of its `Lib.antt`.
 #![tactic(auto)]
 
+mod call;
+mod clauses;
+mod comparison;
 mod fault;
 mod laws;
+mod operand;
+mod operators;
 mod parser;
+mod place;
+mod predicate;
+mod primary;
+mod statement;
 
 pub use fault::ParseFault;
 pub use laws::outcomes_are_unique;

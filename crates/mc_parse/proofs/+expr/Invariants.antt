@@ -1,0 +1,99 @@
+use Rattle.std.proofs.Common.{◌+◌, ◌*◌, length}
+use Rattle.mc_parse.specs.Read.{as_operand}
+use Rattle.mc_parse.proofs.OperatorWays.{IsMultiplying, IsAdding}
+use Rattle.mc_parse.proofs.TruthWays.{IsOring, IsAnding, IsXoring}
+use Rattle.mc_parse.proofs.+expr.Given as goal
+
+abbrev pub decreases-call::call : goal.decreases-call::call
+decreases-call::call l = 64 * l.below + 20
+
+abbrev pub decreases-comparison::pred : goal.decreases-comparison::pred
+decreases-comparison::pred l = 64 * l.below + 47
+
+abbrev pub decreases-operators::coll : goal.decreases-operators::coll
+decreases-operators::coll l = 64 * l.below + 25
+
+abbrev pub decreases-operators::more_negs : goal.decreases-operators::more_negs
+decreases-operators::more_negs l = 64 * l.below + 27
+
+abbrev pub decreases-operators::more_prods : goal.decreases-operators::more_prods
+decreases-operators::more_prods l = 64 * l.below + 29
+
+abbrev pub decreases-operators::neg : goal.decreases-operators::neg
+decreases-operators::neg l = 64 * l.below + 26
+
+abbrev pub decreases-operators::prod : goal.decreases-operators::prod
+decreases-operators::prod l = 64 * l.below + 28
+
+abbrev pub decreases-operators::sum : goal.decreases-operators::sum
+decreases-operators::sum l = 64 * l.below + 30
+
+abbrev pub decreases-predicate::all_of : goal.decreases-predicate::all_of
+decreases-predicate::all_of l = 64 * l.below + 51
+
+abbrev pub decreases-predicate::and : goal.decreases-predicate::and
+decreases-predicate::and l = 64 * l.below + 52
+
+abbrev pub decreases-predicate::any_of : goal.decreases-predicate::any_of
+decreases-predicate::any_of l = 64 * l.below + 59
+
+abbrev pub decreases-predicate::more_ands : goal.decreases-predicate::more_ands
+decreases-predicate::more_ands l = 64 * l.below + 55
+
+abbrev pub decreases-predicate::not : goal.decreases-predicate::not
+decreases-predicate::not l = 64 * l.below + 48
+
+abbrev pub decreases-predicate::or : goal.decreases-predicate::or
+decreases-predicate::or l = 64 * l.below + 60
+
+abbrev pub decreases-predicate::push_nots : goal.decreases-predicate::push_nots
+decreases-predicate::push_nots l = 64 * l.below + 50
+
+abbrev pub decreases-predicate::push_xors : goal.decreases-predicate::push_xors
+decreases-predicate::push_xors l = 64 * l.below + 58
+
+abbrev pub decreases-predicate::xor : goal.decreases-predicate::xor
+decreases-predicate::xor l = 64 * l.below + 56
+
+abbrev pub decreases-primary::prim : goal.decreases-primary::prim
+decreases-primary::prim l = 64 * l.below + 24
+
+abbrev pub invariant-operators::more_negs-loop-op : goal.invariant-operators::more_negs-loop-op
+invariant-operators::more_negs-loop-op l =
+    IsMultiplying l.below l.fn.place.tokens.now l.place.tokens.now (as_operand l.fn.first)
+    (as_operand l.operand)
+
+abbrev pub decreases-operators::more_negs-loop-op : goal.decreases-operators::more_negs-loop-op
+decreases-operators::more_negs-loop-op l = length l.place.tokens.now
+
+abbrev pub invariant-operators::more_prods-loop-op : goal.invariant-operators::more_prods-loop-op
+invariant-operators::more_prods-loop-op l =
+    IsAdding l.below l.fn.place.tokens.now l.place.tokens.now (as_operand l.fn.first)
+    (as_operand l.operand)
+
+abbrev pub decreases-operators::more_prods-loop-op : goal.decreases-operators::more_prods-loop-op
+decreases-operators::more_prods-loop-op l = length l.place.tokens.now
+
+abbrev pub invariant-predicate::more_ands-loop-behind : goal.invariant-predicate::more_ands-loop-behind
+invariant-predicate::more_ands-loop-behind l =
+    IsXoring l.alias l.below l.fn.place.tokens.now l.place.tokens.now (as_operand l.fn.first)
+    (as_operand l.operand)
+
+abbrev pub decreases-predicate::more_ands-loop-behind : goal.decreases-predicate::more_ands-loop-behind
+decreases-predicate::more_ands-loop-behind l = length l.place.tokens.now
+
+abbrev pub invariant-predicate::push_xors-loop-behind : goal.invariant-predicate::push_xors-loop-behind
+invariant-predicate::push_xors-loop-behind l =
+    IsOring l.alias l.below l.fn.place.tokens.now l.place.tokens.now l.fn.list l.list
+    l.fn.extent l.extent
+
+abbrev pub decreases-predicate::push_xors-loop-behind : goal.decreases-predicate::push_xors-loop-behind
+decreases-predicate::push_xors-loop-behind l = length l.place.tokens.now
+
+abbrev pub invariant-predicate::push_nots-loop-behind : goal.invariant-predicate::push_nots-loop-behind
+invariant-predicate::push_nots-loop-behind l =
+    IsAnding l.alias l.below l.fn.place.tokens.now l.place.tokens.now l.fn.list l.list
+    l.fn.extent l.extent
+
+abbrev pub decreases-predicate::push_nots-loop-behind : goal.decreases-predicate::push_nots-loop-behind
+decreases-predicate::push_nots-loop-behind l = length l.place.tokens.now
