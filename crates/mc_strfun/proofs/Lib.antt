@@ -1,0 +1,4 @@
+pub mod Lengths
+pub mod Parts
+pub mod Limits
+pub mod Joined
