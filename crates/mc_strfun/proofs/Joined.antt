@@ -49,3 +49,8 @@ pub ws_value : Joins → Encodes → (set : Charset) (separator : List ℕ) (par
     → within_limit (joined_with separator parts) ≡ spelled_within set (joined_with (chars set separator) (map (chars set) parts))
 ws_value j e set separator parts s w =
     spelled_value set _ _ (parts_spelled j e set (chars set separator) separator parts (e set separator s) w)
+
+pub copies_spelled : Joins → (set : Charset) (codes text : List ℕ) (count : ℕ) → Spells set codes text → Spells set (repeat count codes) (repeat count text)
+copies_spelled j set codes text zero h = empty_spelled set
+copies_spelled j set codes text (suc count) h =
+    j set codes (repeat count codes) text (repeat count text) h (copies_spelled j set codes text count h)

@@ -2,3 +2,5 @@ pub mod Lengths
 pub mod Parts
 pub mod Limits
 pub mod Joined
+pub mod Paddings
+pub mod Backwards

@@ -1,3 +1,4 @@
 pub mod Numbers
 pub mod Slices
 pub mod Joins
+pub mod Pads

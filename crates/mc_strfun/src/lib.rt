@@ -13,11 +13,17 @@
 mod copies;
 mod digits;
 mod joins;
+mod laws;
 mod number;
+mod pads;
 mod part;
+mod reversal;
 mod slices;
 
 pub use copies::repeat;
 pub use digits::hex;
 pub use joins::{concat, concat_ws};
+pub use laws::repeat_law;
+pub use pads::{lpad, rpad};
+pub use reversal::reverse;
 pub use slices::{left, right, substring};
