@@ -1,11 +1,11 @@
 -- Characters written backwards, the first ones last.
-use Rattle.std.proofs.Common.{◌≡◌, ℕ, ◌+◌, ◌-◌, ◌<◌, ◌≤◌, List, [], ◌∷◌, ◌++◌, Some, length, take, drop, reverse, append_assoc, append-nil, refl, sym, ap, subst, ◌∙◌, arith, length-append}
+use Rattle.std.proofs.Common.{◌≡◌, ℕ, ◌+◌, ◌-◌, ◌≤◌, List, [], ◌∷◌, ◌++◌, length, take, drop, reverse, append_assoc, append-nil, refl, sym, ap, subst, ◌∙◌, arith, length-append}
 use Rattle.std.proofs.lemmas.List.{drop-drop, length-take-le, length-drop, reverse-append}
 use Rattle.std.proofs.Math.Seq.{drop-append_seam, drop-length}
 use Rattle.mc_charset.specs.declared.charset.Charset.{Charset}
 use Rattle.mc_charset.specs.declared.char_at.CharAt.{CharAt}
 use Rattle.mc_charset.specs.declared.char_at.CharAt.TheVariants.{Char, End, Bad}
-use Rattle.mc_charset.specs.Chars.{chars, chars_behind, spell, Spells, IsWellFormed}
+use Rattle.mc_charset.specs.Chars.{chars, chars_behind, Spells, IsWellFormed}
 use Rattle.mc_charset.specs.NextChar.{IsFirst, IsNextChar, HeadsChars}
 use Rattle.mc_strfun.proofs.Joined.{Joins}
 use Rattle.mc_strfun.proofs.Lengths.{Spells_cons, empty_spelled}

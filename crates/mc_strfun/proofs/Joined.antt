@@ -1,10 +1,10 @@
 -- Joined texts are spelled by their joined characters.
-use Rattle.std.proofs.Common.{◌≡◌, ℕ, zero, suc, ◌≤◌, List, [], ◌∷◌, ◌++◌, Option, Some, All, map, refl, sym, ap, ◌∙◌, subst}
+use Rattle.std.proofs.Common.{◌≡◌, ℕ, zero, suc, List, [], ◌∷◌, ◌++◌, All, map, refl, sym, ap, ◌∙◌}
 use Rattle.std.specs.Prelude.{option_and_then}
-use Rattle.std.specs.List.{flat_map, join_by, repeat}
+use Rattle.std.specs.List.{flat_map, repeat}
 use Rattle.std.proofs.lemmas.List.Elements.{All-head, All-tail}
 use Rattle.mc_charset.specs.declared.charset.Charset.{Charset}
-use Rattle.mc_charset.specs.Chars.{chars, spell_all, Spells, IsWellFormed}
+use Rattle.mc_charset.specs.Chars.{chars, Spells, IsWellFormed}
 use Rattle.mc_values.specs.Values.{within_limit}
 use Rattle.mc_strfun.specs.Joins.{joined, joined_with, spelled_within}
 use Rattle.mc_strfun.proofs.Lengths.{empty_spelled}

@@ -7,7 +7,7 @@ use Rattle.std.proofs.lemmas.List.{length-take, take-append-le}
 use Rattle.std.proofs.Math.Seq.{take-append-add}
 use Rattle.std.proofs.Math.Nat.{suc-mul, mod-lt, div-add-mod', mul-le-mul_left}
 use Rattle.mc_charset.specs.declared.charset.Charset.{Charset}
-use Rattle.mc_charset.specs.Chars.{chars, spell_all, Spells, IsWellFormed}
+use Rattle.mc_charset.specs.Chars.{chars, spell_all, Spells}
 use Rattle.mc_values.specs.Values.{greatest_string, within_limit}
 use Rattle.mc_strfun.specs.Joins.{spelled_within}
 use Rattle.mc_strfun.specs.Numbers.{natural}

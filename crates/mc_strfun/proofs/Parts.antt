@@ -1,5 +1,5 @@
 -- So many characters, counted in 32 bits.
-use Rattle.std.proofs.Common.{◌≡◌, ℕ, ◌-◌, ◌<◌, ◌≤◌, ◌^◌, ℤ, Option, None, Some, [], List, length, min, take, drop, refl, sym, ap, subst, ◌∙◌, arith}
+use Rattle.std.proofs.Common.{◌≡◌, ℕ, ◌-◌, ◌<◌, ◌≤◌, ◌^◌, ℤ, Option, None, Some, [], List, length, min, take, drop, sym, ap, subst, ◌∙◌, arith}
 use Rattle.std.proofs.lemmas.List.{take_min, drop_min, length-drop}
 use Rattle.std.proofs.Math.Seq.{take-length}
 use Rattle.mc_charset.specs.declared.charset.Charset.{Charset}

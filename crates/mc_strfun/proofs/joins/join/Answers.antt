@@ -1,4 +1,4 @@
-use Rattle.std.proofs.Common.{◌≡◌, ◌∷◌, List, ℕ, rules, sym, ◌∙◌}
+use Rattle.std.proofs.Common.{◌≡◌, ◌∷◌, rules, sym, ◌∙◌}
 use Rattle.mc_strfun.proofs.Limits.{joined_long, joined_short}
 use Rattle.mc_strfun.proofs.joins.join.Goals as goal
 

@@ -1,5 +1,5 @@
-use Rattle.std.proofs.Common.{◌≡◌, ◌<◌, length, ◌∙◌, arith}
-use Rattle.mc_charset.specs.Chars.{chars, Spells}
+use Rattle.std.proofs.Common.{◌<◌, length, ◌∙◌, arith}
+use Rattle.mc_charset.specs.Chars.{chars}
 use Rattle.mc_strfun.proofs.Paddings.{chars_filled, padded_long, padded_short}
 use Rattle.mc_strfun.proofs.pads.padded.Goals as goal
 

@@ -1,7 +1,7 @@
-use Rattle.std.proofs.Common.{◌≡◌, ◌-◌, ◌<◌, pos, ◌<ℤ◌, ◌≤ℤ◌, [], ◌++◌, length, take, ap, sym, ◌∙◌, arith, to_z-of_z}
+use Rattle.std.proofs.Common.{◌<◌, pos, ◌≤ℤ◌, [], ◌++◌, length, take, ap, ◌∙◌, arith, to_z-of_z}
 use Rattle.std.proofs.lemmas.Int.{ints}
 use Rattle.std.proofs.lemmas.Result.{IfOk-weaker}
-use Rattle.mc_charset.specs.Chars.{chars, Spells}
+use Rattle.mc_charset.specs.Chars.{chars}
 use Rattle.std.specs.List.{repeat}
 use Rattle.mc_strfun.specs.Joins.{spelled_within}
 use Rattle.mc_strfun.specs.Numbers.{natural}
