@@ -4,3 +4,4 @@ pub mod Limits
 pub mod Joined
 pub mod Paddings
 pub mod Backwards
+pub mod Replaced

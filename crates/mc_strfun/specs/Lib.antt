@@ -2,3 +2,4 @@ pub mod Numbers
 pub mod Slices
 pub mod Joins
 pub mod Pads
+pub mod Replaced

@@ -7,7 +7,8 @@
 //!
 //! Read the modules in this order: `number` (numbers of characters), `part` (the slice that some
 //! characters of a text spell), `slices` (LEFT, RIGHT, SUBSTRING), `copies` (REPEAT), `joins`
-//! (CONCAT, CONCAT_WS), `digits` (HEX).
+//! (CONCAT, CONCAT_WS), `pads` (LPAD, RPAD), `reversal` (REVERSE), `replacement` (REPLACE),
+//! `digits` (HEX), and `laws`, which other crates prove with.
 #![tactic(auto)]
 
 mod copies;
@@ -17,6 +18,7 @@ mod laws;
 mod number;
 mod pads;
 mod part;
+mod replacement;
 mod reversal;
 mod slices;
 
@@ -25,5 +27,6 @@ pub use digits::hex;
 pub use joins::{concat, concat_ws};
 pub use laws::repeat_law;
 pub use pads::{lpad, rpad};
+pub use replacement::replace;
 pub use reversal::reverse;
 pub use slices::{left, right, substring};

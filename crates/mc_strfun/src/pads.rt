@@ -1,7 +1,7 @@
 ghost use Rattle.mc_charset.specs.Chars.{Spells, chars, IsWellFormed};
 ghost use Rattle.mc_strfun.specs.Joins.{spelled_within};
 ghost use Rattle.mc_strfun.specs.Pads.{left_padded, right_padded};
-ghost use Rattle.mc_values.specs.Values.{greatest_string, within_limit};
+ghost use Rattle.mc_values.specs.Values.{greatest_string};
 ghost use Rattle.std.specs.List.{repeat};
 ghost use Rattle.std.specs.Option.{option_and_then};
 ghost use Rattle.std.specs.Prelude.{
@@ -21,10 +21,10 @@ ghost use Rattle.std.specs.Prelude.{
 
 use crate::copies::push_copies;
 use crate::number::natural;
-use crate::part::front;
+use crate::part::{front, whole};
 use mc_base::{NoMemory, Text};
 use mc_charset::{Charset, char_count, chars_law};
-use mc_values::{GREATEST_STRING, within_limit};
+use mc_values::GREATEST_STRING;
 use std::alloc::Global;
 
 /// The text cut to `count` characters, or behind copies of the pad, the last one cut, up to
@@ -98,16 +98,6 @@ fn missing(set: Charset, text: &[u8], count: u64) -> u64
     ensures { result ≡ count - length (chars set text.now) }
 {
     count.saturating_sub(u64::from(char_count(set, text)))
-}
-
-/// The bytes, within the greatest length.
-fn whole(alloc: Global, text: &[u8]) -> Result<Option<Text>, NoMemory>
-    ensures { IfOk result (λ value. value ≡ within_limit text.now) }
-{
-    if text.len() > GREATEST_STRING {
-        return Ok(None);
-    }
-    Ok(within_limit(Text::from_slice(alloc, text)?))
 }
 
 /// Some bytes, so many characters of copies of a pad, and some more bytes, within the greatest

@@ -1,8 +1,12 @@
 ghost use Rattle.mc_charset.specs.Chars.{Spells, chars, IsWellFormed};
-ghost use Rattle.std.specs.Prelude.{◌<◌, ◌≤◌, ◌^◌, drop, length, take};
+ghost use Rattle.mc_values.specs.Values.{within_limit};
+ghost use Rattle.std.specs.Prelude.{◌≡◌, ◌<◌, ◌≤◌, ◌^◌, IfOk, drop, length, take};
 
 use crate::number::bounded;
+use mc_base::{NoMemory, Text};
 use mc_charset::{Charset, char_start, chars_law};
+use mc_values::{GREATEST_STRING, within_limit};
+use std::alloc::Global;
 
 /// The slice that the first `count` characters spell, or all where there are no more.
 pub(crate) fn front(set: Charset, text: &[u8], count: u64) -> &[u8]
@@ -24,4 +28,14 @@ pub(crate) fn behind(set: Charset, text: &[u8], count: u64) -> &[u8]
 {
     chars_law();
     &text[char_start(set, text, bounded(count))..]
+}
+
+/// The bytes, within the greatest length.
+pub(crate) fn whole(alloc: Global, text: &[u8]) -> Result<Option<Text>, NoMemory>
+    ensures { IfOk result (λ value. value ≡ within_limit text.now) }
+{
+    if text.len() > GREATEST_STRING {
+        return Ok(None);
+    }
+    Ok(within_limit(Text::from_slice(alloc, text)?))
 }
