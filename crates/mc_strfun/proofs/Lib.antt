@@ -5,3 +5,4 @@ pub mod Joined
 pub mod Paddings
 pub mod Backwards
 pub mod Replaced
+mod StandardFacts

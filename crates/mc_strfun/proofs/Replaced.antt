@@ -1,17 +1,16 @@
 -- Characters replaced one after the other, and the bytes that spell them.
-use Rattle.std.proofs.Common.{◌≡◌, ℕ, zero, suc, ◌+◌, ◌-◌, ◌<◌, ◌≤◌, Bool, true, false, IsTrue, cond, List, [], ◌∷◌, ◌++◌, Some, None, Option, length, take, drop, append_assoc, append-nil, refl, sym, ap, subst, ◌∙◌, arith, length-append}
-use Rattle.std.specs.Str.{bytes_eq}
+use Rattle.std.proofs.Common.{◌≡◌, ℕ, zero, suc, ◌+◌, ◌-◌, ◌<◌, ◌≤◌, Bool, true, false, cond, List, [], ◌∷◌, ◌++◌, Some, None, length, take, drop, append_assoc, append-nil, refl, sym, ap, subst, ◌∙◌, arith, length-append}
 use Rattle.std.proofs.lemmas.Slice.Eq.{bytes_eq-Decides}
 use Rattle.std.proofs.lemmas.List.{drop-drop, length-drop, length-take, take-append-drop}
 use Rattle.std.proofs.Math.Seq.{drop-append-add, take-append_seam, take-append-add}
 use Rattle.mc_charset.specs.declared.charset.Charset.{Charset}
-use Rattle.mc_charset.specs.Chars.{chars, chars_behind, spell, Spells, IsWellFormed}
+use Rattle.mc_charset.specs.Chars.{chars, chars_behind, Spells, IsWellFormed}
 use Rattle.mc_charset.specs.NextChar.{IsFirst}
-use Rattle.mc_values.specs.Values.{greatest_string, within_limit}
+use Rattle.mc_values.specs.Values.{greatest_string}
 use Rattle.mc_strfun.specs.Joins.{spelled_within}
 use Rattle.mc_strfun.specs.Replaced.{begins, replaced, replaced_behind}
 use Rattle.mc_strfun.proofs.Joined.{Joins, spelled_value}
-use Rattle.mc_strfun.proofs.Lengths.{Spells_cons, Spells_nil, Spells_split, empty_spelled, spell_positive}
+use Rattle.mc_strfun.proofs.Lengths.{Spells_cons, Spells_nil, Spells_split, empty_spelled}
 use Rattle.mc_strfun.proofs.Limits.{within_limit-fits, within_limit-long}
 
 -- What `chars_law` says.
