@@ -1,5 +1,6 @@
 -- A list of characters padded to a number of them: MySQL 8.0 manual, 12.8, LPAD and RPAD.
-use Rattle.std.specs.Prelude.{ℕ, zero, suc, ◌-◌, ℤ, pos, negsuc, List, [], ◌∷◌, ◌++◌}
+use Rattle.std.specs.Prelude.{ℕ, zero, suc, ◌-◌, ℤ}
+use Rattle.std.specs.Prelude.{pos, negsuc, List, [], ◌∷◌, ◌++◌}
 use Rattle.std.specs.Prelude.{Option, Some, None, length, option_map, take}
 use Rattle.std.specs.List.{repeat}
 

@@ -1,5 +1,6 @@
 -- Parts of a list of characters: MySQL 8.0 manual, 12.8, LEFT, RIGHT and SUBSTRING.
-use Rattle.std.specs.Prelude.{ℕ, zero, suc, ◌-◌, ℤ, pos, negsuc, List, [], Option, Some, None}
+use Rattle.std.specs.Prelude.{ℕ, zero, suc, ◌-◌, ℤ, pos}
+use Rattle.std.specs.Prelude.{negsuc, List, [], Option, Some, None}
 use Rattle.std.specs.Prelude.{drop, length, nat_le, take}
 use Rattle.std.specs.Prelude.{if◌then◌else◌}
 use Rattle.mc_strfun.specs.Numbers.{natural}

@@ -1,6 +1,15 @@
 ghost use Rattle.mc_charset.specs.Chars.{Spells, chars, IsWellFormed};
 ghost use Rattle.mc_values.specs.Values.{within_limit};
-ghost use Rattle.std.specs.Prelude.{◌≡◌, ◌<◌, ◌≤◌, ◌^◌, IfOk, drop, length, take};
+ghost use Rattle.std.specs.Prelude.{
+  ◌≡◌,
+  ◌<◌,
+  ◌≤◌,
+  ◌^◌,
+  IfOk,
+  drop,
+  length,
+  take,
+};
 
 use crate::number::bounded;
 use mc_base::{NoMemory, Text};

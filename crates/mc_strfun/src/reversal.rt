@@ -42,7 +42,8 @@ fn put_backwards(set: Charset, text: &[u8], out: &mut [u8])
 /// Writes bytes over those from a place on.
 fn put_at(out: &mut [u8], start: usize, bytes: &[u8])
     requires { start + length bytes.now ≤ length out.now }
-    ensures { out.new ≡ take start out.old ++ (bytes.now ++ drop (start + length bytes.now) out.old) }
+    ensures { out.new ≡
+        take start out.old ++ (bytes.now ++ drop (start + length bytes.now) out.old) }
 {
     out[start..start + bytes.len()].copy_from_slice(bytes);
 }
