@@ -1,0 +1,8 @@
+pub mod Lengths
+pub mod Parts
+pub mod Limits
+pub mod Joined
+pub mod Paddings
+pub mod Backwards
+pub mod Replaced
+mod StandardFacts

@@ -1,0 +1,5 @@
+pub mod Numbers
+pub mod Slices
+pub mod Joins
+pub mod Pads
+pub mod Replaced
