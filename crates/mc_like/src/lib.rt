@@ -1,4 +1,4 @@
-//! LIKE, character by character under a collation: MySQL 8.0 manual, 14.8.1.
+//! LIKE, character by character under a collation: MySQL 8.0 manual, 12.8.1.
 //!
 //! A pattern's characters are read as items (`specs/Items.antt`), and a text matches where some cut
 //! of it matches them one after the other (`specs/Like.antt`). `specs/Laws.antt` says the same in
@@ -20,6 +20,6 @@ mod matching;
 mod pattern;
 mod read;
 
-pub use item::Item;
+pub use item::PatternItem;
 pub use laws::{item_laws, like_laws};
 pub use pattern::{Pattern, compile};

@@ -1,11 +1,11 @@
 ghost use Rattle.mc_charset.specs.Chars.{chars};
-ghost use Rattle.mc_like.specs.Fits.{last_count};
+ghost use Rattle.mc_like.specs.Fronts.{last_count};
 ghost use Rattle.mc_like.specs.Items.{literal_count};
 ghost use Rattle.mc_like.specs.Like.{Like};
 ghost use Rattle.mc_like.specs.Pattern.{AreOfSet};
 ghost use Rattle.std.specs.Prelude.{◌≡◌, ◌↔◌, ◌+◌, ◌*◌, ◌≤◌, ◌∷◌, IsTrue, length, min};
 
-use crate::Item;
+use crate::PatternItem;
 use crate::fit::{Fit, first_in, fit_front};
 use mc_base::Steps;
 use mc_charset::{Ascii, Binary, Charset, Encoding, Latin1, Ucs2, Utf8mb3, Utf8mb4, Utf16, Utf32};
@@ -16,7 +16,7 @@ use mc_order::Collation;
 pub(crate) fn is_match_in<C: Collation, W>(
     set: Charset,
     collation: &C,
-    items: &[Item],
+    items: &[PatternItem],
     text: &[u8],
     work: &mut Steps<W>,
 ) -> bool
@@ -43,7 +43,7 @@ pub(crate) fn is_match_in<C: Collation, W>(
 /// Whether a text matches the items.
 fn is_match<C: Collation, E: Encoding, W>(
     collation: &C,
-    items: &[Item],
+    items: &[PatternItem],
     text: &[u8],
     work: &mut Steps<W>,
 ) -> bool
@@ -68,14 +68,14 @@ fn is_match<C: Collation, E: Encoding, W>(
 // may pass over what another one would have left out.
 fn is_match_behind<C: Collation, E: Encoding, W>(
     collation: &C,
-    items: &[Item],
+    items: &[PatternItem],
     text: &[u8],
     work: &mut Steps<W>,
 ) -> bool
     requires same_set { E.set ≡ (C.meaning collation.now).charset }
     requires of_set { AreOfSet E.set items.now }
     ensures exact { IsTrue result ↔
-        Like (C.meaning collation.now) (Item.Any ∷ items.now) (chars E.set text.now) }
+        Like (C.meaning collation.now) (PatternItem.Any ∷ items.now) (chars E.set text.now) }
     ensures at_most { let n = length (chars E.set text.now) in let m = length items.now in
         work.new ≤ work.old + n * (m + 1) + m }
     ensures each_literal { IsTrue result →

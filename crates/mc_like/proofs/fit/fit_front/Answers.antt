@@ -44,8 +44,8 @@ returns-in_default-first_in g c = record {
   left_of_set = tt;
 }
 
-pub is_like-requires : goal.is_like-requires
-is_like-requires g c =
+pub is_taken-requires : goal.is_taken-requires
+is_taken-requires g c =
     let set = g.E.Encoding.set in
     let item = c.in-Some.item.now in
     let first = c.in-Some-first_in.ensures in
@@ -58,18 +58,18 @@ is_like-requires g c =
           (is_char set c.in-Some-first_in.code first.of_set);
     }
 
-pub returns-then-not-is_like : goal.returns-then-not-is_like
-returns-then-not-is_like g c = record {
+pub returns-then-not-is_taken : goal.returns-then-not-is_taken
+returns-then-not-is_taken g c = record {
   fit = at_misfit (g.C.Collation.meaning c.args.collation.now) c.args.items.now
       c.loop-item.left.now c.in-Some.more.now (chars g.E.Encoding.set c.args.text.now)
       (chars g.E.Encoding.set c.loop-item.rest.now)
       (chars g.E.Encoding.set c.in-Some-first_in.behind.now) c.in-Some.item.now
       c.in-Some-first_in.code c.loop-item.invariant.0 c.in-Some.ensures.cases.0
       c.in-Some-first_in.ensures.first (record { other = c.in_default-item.not-Any })
-      (λ takes. let never : false ≡ true = c.if-not-is_like.ensures.takes.1 takes in cc);
+      (λ takes. let never : false ≡ true = c.if-not-is_taken.ensures.takes.1 takes in cc);
   ticks = (
-    omega (arith, c.loop-item.invariant.2, c.in-Some.ensures.cases.1, c.is_like.ensures.at_most),
-    omega (arith, c.loop-item.invariant.4, c.is_like.ensures.at_least),
+    omega (arith, c.loop-item.invariant.2, c.in-Some.ensures.cases.1, c.is_taken.ensures.at_most),
+    omega (arith, c.loop-item.invariant.4, c.is_taken.ensures.at_least),
   );
   left_of_set = tt;
 }
@@ -84,12 +84,12 @@ loop-item-preserved g c =
           (chars g.E.Encoding.set c.in-Some-first_in.behind.now) c.in-Some.item.now
           c.in-Some-first_in.code c.loop-item.invariant.0 cases.0
           c.in-Some-first_in.ensures.first (record { other = c.in_default-item.not-Any })
-          (c.if-not-is_like.ensures.takes.0 refl),
+          (c.if-not-is_taken.ensures.takes.0 refl),
       All-rest (λ item. IsTrue (is_of_set g.E.Encoding.set item)) c.in-Some.item.now
           c.in-Some.more.now c.loop-item.left.now cases.0 c.loop-item.invariant.1,
-      omega (arith, c.loop-item.invariant.2, cases.1, c.is_like.ensures.at_most),
-      at_least_more _ _ _ _ _ _ _ _ c.loop-item.invariant.3 count c.is_like.ensures.at_least,
-      omega (arith, c.loop-item.invariant.4, c.is_like.ensures.at_least),
+      omega (arith, c.loop-item.invariant.2, cases.1, c.is_taken.ensures.at_most),
+      at_least_more _ _ _ _ _ _ _ _ c.loop-item.invariant.3 count c.is_taken.ensures.at_least,
+      omega (arith, c.loop-item.invariant.4, c.is_taken.ensures.at_least),
     )
 
 pub returns-in-Some-first_in-2-clause-fit : goal.returns-in-Some-first_in-2-clause-fit

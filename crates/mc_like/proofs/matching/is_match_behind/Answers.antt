@@ -1,7 +1,7 @@
 use Rattle.std.proofs.Common.{◌≡◌, ◌∷◌, zero, suc, List, length, refl, ap, sym, ◌∙◌, subst, arith}
 use Rattle.mc_charset.specs.Chars.{chars}
-use Rattle.mc_like.specs.declared.item.Item.{Item}
-use Rattle.mc_like.specs.declared.item.Item.TheVariants.{Any}
+use Rattle.mc_like.specs.declared.item.PatternItem.{PatternItem}
+use Rattle.mc_like.specs.declared.item.PatternItem.TheVariants.{Any}
 use Rattle.mc_like.specs.Items.{literal_count}
 use Rattle.mc_like.specs.Like.{Like}
 use Rattle.mc_like.proofs.Counts.{at_most_misfit, is_zero, literal_count-none}
@@ -50,7 +50,7 @@ returns-clause-exact g c =
     let none = no_items c.loop-items.items.now
     (is_zero (length c.loop-items.items.now) c.loop-items-test.ensures) in (
       λ h. c.loop-items.invariant.0.0
-          (subst (λ (items : List Item). Like m (Any ∷ items) codes) (sym none) (any_alone m codes)),
+          (subst (λ (items : List PatternItem). Like m (Any ∷ items) codes) (sym none) (any_alone m codes)),
       λ h. refl,
     )
 

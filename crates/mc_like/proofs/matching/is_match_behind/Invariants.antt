@@ -1,7 +1,7 @@
 use Rattle.std.proofs.Common.{◌↔◌, ◌+◌, ◌*◌, ◌≤◌, ◌∷◌, length, min}
 use Rattle.mc_charset.specs.Chars.{chars}
-use Rattle.mc_like.specs.declared.item.Item.TheVariants.{Any}
-use Rattle.mc_like.specs.Fits.{last_count}
+use Rattle.mc_like.specs.declared.item.PatternItem.TheVariants.{Any}
+use Rattle.mc_like.specs.Fronts.{last_count}
 use Rattle.mc_like.specs.Items.{literal_count}
 use Rattle.mc_like.specs.Like.{Like}
 use Rattle.mc_like.specs.Pattern.{AreOfSet}

@@ -6,8 +6,8 @@ use Rattle.mc_order.specs.Meaning.{Meaning}
 use Rattle.mc_order.specs.Consequences.{IsSameChar}
 use Rattle.mc_like.specs.declared.fit.Fit.{Fit}
 use Rattle.mc_like.specs.declared.fit.Fit.TheVariants.{Misfit, Short, Whole, Gap}
-use Rattle.mc_like.specs.declared.item.Item.{Item}
-use Rattle.mc_like.specs.declared.item.Item.TheVariants.{Literal, One, Any}
+use Rattle.mc_like.specs.declared.item.PatternItem.{PatternItem}
+use Rattle.mc_like.specs.declared.item.PatternItem.TheVariants.{Literal, One, Any}
 use Rattle.mc_like.specs.Items.{literal_count}
 use Rattle.mc_like.specs.Like.{Like}
 use Rattle.mc_like.specs.Pattern.{AreOfSet}
@@ -17,21 +17,21 @@ abbrev pub last_count : ℕ
 last_count = 2 ^ 64 - 1
 
 -- The item, which is not `%`, takes this one character.
-abbrev pub Takes : Meaning → Item → ℕ → Type 0
+abbrev pub Takes : Meaning → PatternItem → ℕ → Type 0
 Takes m (Literal literal) code = IsSameChar m literal code
 Takes m One code = ⊤
 Takes m Any code = ⊤
 
 -- The items up to a `%` are matched, one character each, and what is behind decides: also where
 -- more of the text had been passed over in front of them.
-pub record Reaches (m : Meaning) (items more : List Item) (codes rest : List ℕ) : Type 0 where
+pub record Reaches (m : Meaning) (items more : List PatternItem) (codes rest : List ℕ) : Type 0 where
   pub whole : Like m items codes ↔ Like m (Any ∷ more) rest
   pub later : Like m (Any ∷ items) codes ↔ Like m (Any ∷ more) rest
   pub shorter : length more + 1 ≤ length items
   pub one_each : length codes + (length more + 1) ≡ length rest + length items
 
 -- The answer is how far the items match.
-abbrev pub IsFit : Meaning → Charset → List Item → List ℕ → Fit → Type 0
+abbrev pub IsFit : Meaning → Charset → List PatternItem → List ℕ → Fit → Type 0
 IsFit m set items codes Misfit = Like m items codes → ⊥
 IsFit m set items codes Short = Like m (Any ∷ items) codes → ⊥
 IsFit m set items codes Whole = Like m items codes
@@ -39,7 +39,7 @@ IsFit m set items codes (Gap more rest) = Reaches m items more.now codes (chars 
 
 -- The counter went on by as many ticks as there are items at most, and by as many as there are
 -- literals at least, unless it stands at its end; up to a `%`, so much less.
-abbrev pub Ticks : List Item → ℕ → ℕ → Fit → Type 0
+abbrev pub Ticks : List PatternItem → ℕ → ℕ → Fit → Type 0
 Ticks items old new Misfit = (new ≤ old + length items) × (min old last_count ≤ new)
 Ticks items old new Short = new ≤ old + length items
 Ticks items old new Whole =
