@@ -1,5 +1,5 @@
 -- How many literals items have.
-use Rattle.std.proofs.Common.{◌≡◌, ℕ, suc, true, ◌==◌, ◌+◌, ◌*◌, ◌≤◌, subst, ◌⊎◌, inl, inr, List, [], ◌∷◌, refl, min, arith}
+use Rattle.std.proofs.Common.{◌≡◌, ℕ, suc, true, false, ◌==◌, ◌+◌, ◌*◌, ◌≤◌, subst, ◌⊎◌, inl, inr, List, [], ◌∷◌, refl, min, arith}
 use Rattle.std.proofs.lemmas.Bool.Decides.{nat_tests}
 use Rattle.mc_like.specs.declared.item.PatternItem.{PatternItem}
 use Rattle.mc_like.specs.declared.item.PatternItem.TheVariants.{Literal, One, Any}
@@ -53,6 +53,9 @@ at_most_misfit first old new all rest behind items most e t s h =
 
 pub is_zero : (n : ℕ) → true ≡ (n == 0) → n ≡ 0
 is_zero n e = grind (arith, nat_tests)
+
+pub is_some : (n : ℕ) → false ≡ (n == 0) → 1 ≤ n
+is_some n e = grind (arith, nat_tests)
 
 pub ruleset counts = (
   literal_count-none,

@@ -1,11 +1,12 @@
 -- What it means to have gone over items, one character each.
-use Rattle.std.proofs.Common.{◌≡◌, ℕ, zero, ◌+◌, ◌≤◌, List, [], ◌∷◌, length, drop, refl, ap, ◌∙◌, subst, arith}
+use Rattle.std.proofs.Common.{◌≡◌, ℕ, zero, true, ◌+◌, ◌≤◌, List, [], ◌∷◌, length, drop, refl, ap, ◌∙◌, subst, arith}
 use Rattle.std.proofs.Math.Seq.{drop-nil}
 use Rattle.mc_order.specs.Meaning.{Meaning}
 use Rattle.mc_like.specs.declared.item.PatternItem.{PatternItem}
 use Rattle.mc_like.specs.declared.item.PatternItem.TheVariants.{Any}
-use Rattle.mc_like.specs.Fronts.{Takes, Reaches}
+use Rattle.mc_like.specs.Fronts.{Takes, Reaches, has_any}
 use Rattle.mc_like.specs.Like.{Like}
+use Rattle.mc_like.proofs.LastItems.{has_any-any, has_any-more}
 use Rattle.mc_like.proofs.Like.{IsSingle, Like-end, Like-end_left, Like-end_right, Like-single, Like-single_back, Like-any, Like-any_back, single_behind, any_absorbs}
 
 -- From the items to what is left of them, one character each: what matches the rest matches all,
@@ -13,6 +14,7 @@ use Rattle.mc_like.proofs.Like.{IsSingle, Like-end, Like-end_left, Like-end_righ
 pub record Passes (m : Meaning) (items left : List PatternItem) (codes rest : List ℕ) : Type 0 where
   pub forward : (k : ℕ) → Like m items (drop k codes) → Like m left (drop k rest)
   pub back : Like m left rest → Like m items codes
+  pub some_any : has_any left ≡ true → has_any items ≡ true
   pub shorter : length left ≤ length items
   pub one_each : length codes + length left ≡ length rest + length items
 
@@ -21,6 +23,7 @@ pub passes_none : (m : Meaning) (items : List PatternItem) (codes : List ℕ) �
 passes_none m items codes = record {
   forward = λ k h. h;
   back = λ h. h;
+  some_any = λ h. h;
   shorter = omega arith;
   one_each = refl;
 }
@@ -31,6 +34,7 @@ passes_one : (m : Meaning) (items more : List PatternItem) (codes rest : List �
 passes_one m items more codes rest item code single takes p = record {
   forward = λ k h. single_behind m item more k code rest single (p.forward k h);
   back = λ h. p.back (Like-single_back m item more code rest single takes h);
+  some_any = λ h. p.some_any (has_any-more item more h);
   shorter = omega (arith, p.shorter);
   one_each = omega (arith, p.one_each);
 }
@@ -60,6 +64,7 @@ at_any m items left more codes rest item p' e any =
             any_absorbs m more some.0 rest (p.forward some.0 some.1),
         λ h. Like-any_back m items codes zero (p.back h),
       );
+      some_any = p.some_any (has_any-any more);
       shorter = omega (arith, p.shorter);
       one_each = omega (arith, p.one_each);
     }

@@ -1,5 +1,6 @@
 -- How far the items before the first `%` match.
-use Rattle.std.specs.Prelude.{◌≡◌, ◌↔◌, ℕ, ◌+◌, ◌-◌, ◌^◌, ◌≤◌, List, ◌∷◌, length, min, ⊤}
+use Rattle.std.specs.Prelude.{◌≡◌, ◌↔◌, ℕ, ◌+◌, ◌-◌, ◌^◌, ◌≤◌, Bool, true, false}
+use Rattle.std.specs.Prelude.{List, [], ◌∷◌, length, min, ⊤}
 use Rattle.mc_charset.specs.declared.charset.Charset.{Charset}
 use Rattle.mc_charset.specs.Chars.{chars}
 use Rattle.mc_order.specs.Meaning.{Meaning}
@@ -22,11 +23,19 @@ Takes m (Literal literal) code = IsSameChar m literal code
 Takes m One code = ⊤
 Takes m Any code = ⊤
 
+-- whether one of the items is `%`
+unfoldable pub has_any : List PatternItem → Bool
+has_any [] = false
+has_any (Literal code ∷ items) = has_any items
+has_any (One ∷ items) = has_any items
+has_any (Any ∷ items) = true
+
 -- The items up to a `%` are matched, one character each, and what is behind decides: also where
 -- more of the text had been passed over in front of them.
 pub record Reaches (m : Meaning) (items more : List PatternItem) (codes rest : List ℕ) : Type 0 where
   pub whole : Like m items codes ↔ Like m (Any ∷ more) rest
   pub later : Like m (Any ∷ items) codes ↔ Like m (Any ∷ more) rest
+  pub some_any : has_any items ≡ true
   pub shorter : length more + 1 ≤ length items
   pub one_each : length codes + (length more + 1) ≡ length rest + length items
 

@@ -1,5 +1,5 @@
 ghost use Rattle.mc_charset.specs.Chars.{chars};
-ghost use Rattle.mc_like.specs.Fronts.{IsFit, Takes, Ticks, LeavesOfSet, last_count};
+ghost use Rattle.mc_like.specs.Fronts.{has_any, IsFit, Takes, Ticks, LeavesOfSet, last_count};
 ghost use Rattle.mc_like.specs.Items.{literal_count};
 ghost use Rattle.mc_like.specs.Pattern.{AreOfSet, is_of_set};
 ghost use Rattle.mc_like.specs.Read.{HasFirst};
@@ -59,6 +59,20 @@ pub(crate) fn fit_front<'a, C: Collation, E: Encoding, W>(
         Some(_) => Fit::Misfit,
         None => Fit::Whole,
     }
+}
+
+/// Whether one of the items is `%`.
+pub(crate) fn has_any(items: &[PatternItem]) -> bool
+    ensures { result ≡ has_any items.now }
+{
+    let mut left = items;
+    while let Some((item, more)) = left.split_first() {
+        if let PatternItem::Any = item {
+            return true;
+        }
+        left = more;
+    }
+    false
 }
 
 /// The first character of a text, and the text behind it.

@@ -6,13 +6,14 @@
 //! a cut, and that what matches begins like the pattern's literal prefix.
 //!
 //! Read the modules in this order: `item`; `read` (a pattern's text as items); `fit` (the items
-//! before the first `%`, one character each); `matching` (from one `%` to the next); `pattern`,
-//! what callers have; `laws`, which other crates prove with.
+//! before the first `%`, one character each); `ends` (the items behind the last `%`); `matching`
+//! (from one `%` to the next); `pattern`, what callers have; `laws`, which other crates prove with.
 //!
 //! `compile(Global, set, b"M\xC3\xBC%", Some(0x5C))?.matches(&collation, text, &mut work)` says
 //! whether the text begins like `Mü`.
 #![tactic(auto)]
 
+mod ends;
 mod fit;
 mod item;
 mod laws;

@@ -6,7 +6,8 @@ ghost use Rattle.mc_like.specs.Pattern.{AreOfSet};
 ghost use Rattle.std.specs.Prelude.{◌≡◌, ◌↔◌, ◌+◌, ◌*◌, ◌≤◌, ◌∷◌, IsTrue, length, min};
 
 use crate::PatternItem;
-use crate::fit::{Fit, first_in, fit_front};
+use crate::ends::ends_like;
+use crate::fit::{Fit, first_in, fit_front, has_any};
 use mc_base::Steps;
 use mc_charset::{Ascii, Binary, Charset, Encoding, Latin1, Ucs2, Utf8mb3, Utf8mb4, Utf16, Utf32};
 use mc_order::Collation;
@@ -83,7 +84,8 @@ fn is_match_behind<C: Collation, E: Encoding, W>(
 {
     let mut items = items;
     let mut rest = text;
-    while !items.is_empty() {
+    let mut gaps = has_any(items);
+    while gaps {
         match fit_front::<C, E, W>(collation, items, rest, work) {
             Fit::Whole => return true,
             Fit::Short => return false,
@@ -93,6 +95,7 @@ fn is_match_behind<C: Collation, E: Encoding, W>(
             } => {
                 items = more;
                 rest = behind;
+                gaps = has_any(items);
             }
             Fit::Misfit => {
                 let Some((_, behind)) = first_in::<E>(rest) else {
@@ -102,5 +105,5 @@ fn is_match_behind<C: Collation, E: Encoding, W>(
             }
         }
     }
-    true
+    ends_like::<C, E, W>(collation, items, rest, work)
 }
