@@ -1,5 +1,6 @@
 -- How many literals items have.
-use Rattle.std.proofs.Common.{◌≡◌, ℕ, suc, true, false, ◌==◌, ◌+◌, ◌*◌, ◌≤◌, subst, ◌⊎◌, inl, inr, List, [], ◌∷◌, refl, min, arith}
+use Rattle.std.proofs.Common.{◌≡◌, ℕ, suc, true, false, ◌==◌, ◌+◌, ◌*◌, ◌≤◌, subst, ◌⊎◌, inl, inr}
+use Rattle.std.proofs.Common.{List, [], ◌∷◌, refl, min, arith}
 use Rattle.std.proofs.lemmas.Bool.Decides.{nat_tests}
 use Rattle.mc_like.specs.declared.item.PatternItem.{PatternItem}
 use Rattle.mc_like.specs.declared.item.PatternItem.TheVariants.{Literal, One, Any}

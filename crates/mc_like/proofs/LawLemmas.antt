@@ -1,5 +1,7 @@
 -- What patterns and LIKE keep.
-use Rattle.std.proofs.Common.{◌≡◌, ◌≢◌, ◌↔◌, ℕ, zero, suc, ◌+◌, ◌-◌, ◌≤◌, true, false, List, [], ◌∷◌, ◌++◌, Some, None, length, take, drop, refl, sym, ap, ◌∙◌, subst, inl, inr, arith}
+use Rattle.std.proofs.Common.{◌≡◌, ◌≢◌, ◌↔◌, ℕ, zero, suc, ◌+◌, ◌-◌, ◌≤◌, true, false, List, []}
+use Rattle.std.proofs.Common.{◌∷◌, ◌++◌, Some, None, length, take, drop, refl, sym, ap, ◌∙◌, subst}
+use Rattle.std.proofs.Common.{inl, inr, arith}
 use Rattle.std.proofs.lemmas.Bool.Decides.{nat_tests}
 use Rattle.std.proofs.lemmas.List.{drop-drop, drop-take, drop_all, length-take}
 use Rattle.std.proofs.lemmas.Bool.{cases_lt}
@@ -8,9 +10,11 @@ use Rattle.mc_order.specs.Meaning.{Meaning}
 use Rattle.mc_like.specs.declared.item.PatternItem.{PatternItem}
 use Rattle.mc_like.specs.declared.item.PatternItem.TheVariants.{Literal, One, Any}
 use Rattle.mc_like.specs.Items.{item_of, is_escape, literal_front}
-use Rattle.mc_like.specs.Laws.{EachIsItem, EachOtherIsItem, EscapedIsLiteral, LastEscapeIsLiteral, LiteralsMatchEach, JoinedMatchAtCut, BeginsLikeFront}
+use Rattle.mc_like.specs.Laws.{EachIsItem, EachOtherIsItem, EscapedIsLiteral, LastEscapeIsLiteral}
+use Rattle.mc_like.specs.Laws.{LiteralsMatchEach, JoinedMatchAtCut, BeginsLikeFront}
 use Rattle.mc_like.specs.Like.{Like}
-use Rattle.mc_like.proofs.Like.{IsSingle, Like-end, Like-end_left, Like-end_right, Like-single, Like-single_back, Like-any, Like-any_back}
+use Rattle.mc_like.proofs.Like.{IsSingle, Like-end, Like-end_left, Like-end_right, Like-single}
+use Rattle.mc_like.proofs.Like.{Like-single_back, Like-any, Like-any_back}
 use Rattle.mc_like.proofs.Items.{items_of-none, items_of-plain, items_of-escaped, items_of-last}
 
 pub each_is_item : EachIsItem

@@ -1,5 +1,6 @@
 -- What it means to have gone over items, one character each.
-use Rattle.std.proofs.Common.{◌≡◌, ℕ, zero, true, ◌+◌, ◌≤◌, List, [], ◌∷◌, length, drop, refl, ap, ◌∙◌, subst, arith}
+use Rattle.std.proofs.Common.{◌≡◌, ℕ, zero, true, ◌+◌, ◌≤◌, List, [], ◌∷◌, length, drop, refl, ap}
+use Rattle.std.proofs.Common.{◌∙◌, subst, arith}
 use Rattle.std.proofs.Math.Seq.{drop-nil}
 use Rattle.mc_order.specs.Meaning.{Meaning}
 use Rattle.mc_like.specs.declared.item.PatternItem.{PatternItem}
@@ -7,7 +8,9 @@ use Rattle.mc_like.specs.declared.item.PatternItem.TheVariants.{Any}
 use Rattle.mc_like.specs.Fronts.{Takes, Reaches, has_any}
 use Rattle.mc_like.specs.Like.{Like}
 use Rattle.mc_like.proofs.LastItems.{has_any-any, has_any-more}
-use Rattle.mc_like.proofs.Like.{IsSingle, Like-end, Like-end_left, Like-end_right, Like-single, Like-single_back, Like-any, Like-any_back, single_behind, any_absorbs}
+use Rattle.mc_like.proofs.Like.{IsSingle, Like-end, Like-end_left, Like-end_right, Like-single}
+use Rattle.mc_like.proofs.Like.{Like-single_back, Like-any, Like-any_back, single_behind}
+use Rattle.mc_like.proofs.Like.{any_absorbs}
 
 -- From the items to what is left of them, one character each: what matches the rest matches all,
 -- and what matches behind a cut matches the rest behind the same cut.

@@ -1,5 +1,6 @@
 -- How far the items before the first `%` match.
-use Rattle.std.specs.Prelude.{◌≡◌, ◌↔◌, ℕ, ◌+◌, ◌-◌, ◌^◌, ◌≤◌, Bool, true, false}
+use Rattle.std.specs.Prelude.{◌≡◌, ◌↔◌, ℕ, ◌+◌, ◌-◌, ◌^◌, ◌≤◌, Bool}
+use Rattle.std.specs.Prelude.{true, false}
 use Rattle.std.specs.Prelude.{List, [], ◌∷◌, length, min, ⊤}
 use Rattle.mc_charset.specs.declared.charset.Charset.{Charset}
 use Rattle.mc_charset.specs.Chars.{chars}
@@ -32,7 +33,8 @@ has_any (Any ∷ items) = true
 
 -- The items up to a `%` are matched, one character each, and what is behind decides: also where
 -- more of the text had been passed over in front of them.
-pub record Reaches (m : Meaning) (items more : List PatternItem) (codes rest : List ℕ) : Type 0 where
+pub record Reaches (m : Meaning) (items more : List PatternItem) (codes rest : List ℕ)
+    : Type 0 where
   pub whole : Like m items codes ↔ Like m (Any ∷ more) rest
   pub later : Like m (Any ∷ items) codes ↔ Like m (Any ∷ more) rest
   pub some_any : has_any items ≡ true
@@ -55,7 +57,8 @@ Ticks items old new Whole =
     (new ≤ old + length items) × (min (old + literal_count items) last_count ≤ new)
 Ticks items old new (Gap more rest) =
     (new + (length more.now + 1) ≤ old + length items)
-    × (min (old + literal_count items) last_count ≤ min (new + literal_count more.now) last_count)
+    × (min (old + literal_count items) last_count
+    ≤ min (new + literal_count more.now) last_count)
 
 -- What is left behind a `%` names characters of the set, where the items do.
 abbrev pub LeavesOfSet : Charset → Fit → Type 0

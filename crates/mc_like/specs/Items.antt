@@ -1,5 +1,6 @@
 -- The items of a pattern, read from its characters: MySQL 8.0 manual, 12.8.1, LIKE.
-use Rattle.std.specs.Prelude.{ℕ, ◌+◌, Bool, false, ◌==◌, if◌then◌else◌, List, [], ◌∷◌}
+use Rattle.std.specs.Prelude.{ℕ, ◌+◌, Bool, false, ◌==◌, if◌then◌else◌, List, []}
+use Rattle.std.specs.Prelude.{◌∷◌}
 use Rattle.std.specs.Prelude.{Option, Some, None}
 use Rattle.mc_like.specs.declared.item.PatternItem.{PatternItem}
 use Rattle.mc_like.specs.declared.item.PatternItem.TheVariants.{Literal, One, Any}
@@ -26,7 +27,8 @@ is_escape (Some escape) code = code == escape
 -- pattern's end
 unfoldable pub items_of : Option ℕ → List ℕ → List PatternItem
 items_of escape [] = []
-items_of escape (code ∷ []) = (if is_escape escape code then Literal code else item_of code) ∷ []
+items_of escape (code ∷ []) =
+    (if is_escape escape code then Literal code else item_of code) ∷ []
 items_of escape (code ∷ next ∷ codes) =
     if is_escape escape code then Literal next ∷ items_of escape codes
     else item_of code ∷ items_of escape (next ∷ codes)

@@ -1,5 +1,6 @@
 -- What patterns are and what LIKE is, in the words of the MySQL 8.0 manual, 12.8.1.
-use Rattle.std.specs.Prelude.{◌≡◌, ◌≢◌, ◌↔◌, ℕ, List, [], ◌∷◌, ◌++◌, Some, None, map, length}
+use Rattle.std.specs.Prelude.{◌≡◌, ◌≢◌, ◌↔◌, ℕ, List, [], ◌∷◌, ◌++◌}
+use Rattle.std.specs.Prelude.{Some, None, map, length}
 use Rattle.std.specs.Prelude.{IsTrue, take, drop}
 use Rattle.std.specs.List.{All, AllZip}
 use Rattle.mc_order.specs.Consequences.{IsSameChar}

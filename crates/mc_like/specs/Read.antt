@@ -14,7 +14,8 @@ pub record HasFirst (set : Charset) (text rest : List ℕ) (code : ℕ) : Type 0
   pub shorter : length rest < length text
 
 -- The text reads as this item, of the set, and then as the rest does.
-pub record ReadsItem (set : Charset) (escape : Option ℕ) (text rest : List ℕ) (item : PatternItem) : Type 0 where
+pub record ReadsItem (set : Charset) (escape : Option ℕ) (text rest : List ℕ)
+    (item : PatternItem) : Type 0 where
   pub first : items_of escape (chars set text) ≡ item ∷ items_of escape (chars set rest)
   pub of_set : IsTrue (is_of_set set item)
   pub shorter : length rest < length text

@@ -3,7 +3,8 @@ ghost use Rattle.mc_like.specs.Fronts.{has_any, last_count};
 ghost use Rattle.mc_like.specs.Items.{literal_count};
 ghost use Rattle.mc_like.specs.Like.{Like};
 ghost use Rattle.mc_like.specs.Pattern.{AreOfSet};
-ghost use Rattle.std.specs.Prelude.{◌≡◌, ◌↔◌, ◌+◌, ◌≤◌, ◌∷◌, IsTrue, false, drop, length, min};
+ghost use Rattle.std.specs.Prelude.{◌≡◌, ◌↔◌, ◌+◌, ◌≤◌, ◌∷◌, IsTrue};
+ghost use Rattle.std.specs.Prelude.{false, drop, length, min};
 
 use crate::PatternItem;
 use crate::fit::{Fit, first_in, fit_front};

@@ -4,7 +4,8 @@ ghost use Rattle.mc_like.specs.Items.{literal_count};
 ghost use Rattle.mc_like.specs.Pattern.{AreOfSet, is_of_set};
 ghost use Rattle.mc_like.specs.Read.{HasFirst};
 ghost use Rattle.mc_order.specs.Meaning.{IsCharOf};
-ghost use Rattle.std.specs.Prelude.{◌≡◌, ◌↔◌, ◌+◌, ◌≤◌, ◌∷◌, [], IsTrue, MatchOption, min};
+ghost use Rattle.std.specs.Prelude.{◌≡◌, ◌↔◌, ◌+◌, ◌≤◌, ◌∷◌, []};
+ghost use Rattle.std.specs.Prelude.{IsTrue, MatchOption, min};
 
 use crate::PatternItem;
 use mc_base::Steps;

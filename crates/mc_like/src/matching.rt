@@ -3,7 +3,8 @@ ghost use Rattle.mc_like.specs.Fronts.{last_count};
 ghost use Rattle.mc_like.specs.Items.{literal_count};
 ghost use Rattle.mc_like.specs.Like.{Like};
 ghost use Rattle.mc_like.specs.Pattern.{AreOfSet};
-ghost use Rattle.std.specs.Prelude.{◌≡◌, ◌↔◌, ◌+◌, ◌*◌, ◌≤◌, ◌∷◌, IsTrue, length, min};
+ghost use Rattle.std.specs.Prelude.{◌≡◌, ◌↔◌, ◌+◌, ◌*◌, ◌≤◌, ◌∷◌};
+ghost use Rattle.std.specs.Prelude.{IsTrue, length, min};
 
 use crate::PatternItem;
 use crate::ends::ends_like;
@@ -23,7 +24,8 @@ pub(crate) fn is_match_in<C: Collation, W>(
 ) -> bool
     requires same_set { set ≡ (C.meaning collation.now).charset }
     requires of_set { AreOfSet set items.now }
-    ensures exact { IsTrue result ↔ Like (C.meaning collation.now) items.now (chars set text.now) }
+    ensures exact { let codes = chars set text.now in
+        IsTrue result ↔ Like (C.meaning collation.now) items.now codes }
     ensures at_most { let n = length (chars set text.now) in let m = length items.now in
         work.new ≤ work.old + (n + 1) * (m + 1) }
     ensures each_literal { IsTrue result →
@@ -50,7 +52,8 @@ fn is_match<C: Collation, E: Encoding, W>(
 ) -> bool
     requires same_set { E.set ≡ (C.meaning collation.now).charset }
     requires of_set { AreOfSet E.set items.now }
-    ensures exact { IsTrue result ↔ Like (C.meaning collation.now) items.now (chars E.set text.now) }
+    ensures exact { let codes = chars E.set text.now in
+        IsTrue result ↔ Like (C.meaning collation.now) items.now codes }
     ensures at_most { let n = length (chars E.set text.now) in let m = length items.now in
         work.new ≤ work.old + (n + 1) * (m + 1) }
     ensures each_literal { IsTrue result →

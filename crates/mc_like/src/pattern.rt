@@ -3,7 +3,8 @@ ghost use Rattle.mc_like.specs.Items.{items_of, literal_front, literal_count};
 ghost use Rattle.mc_like.specs.Like.{is_like};
 ghost use Rattle.mc_like.specs.Pattern.{AreOfSet};
 ghost use Rattle.mc_order.specs.Meaning.{AreCharsOf};
-ghost use Rattle.std.specs.Prelude.{◌≡◌, ◌+◌, ◌-◌, ◌*◌, ◌^◌, ◌≤◌, ◌++◌, [], IsTrue, IfOk};
+ghost use Rattle.std.specs.Prelude.{◌≡◌, ◌+◌, ◌-◌, ◌*◌, ◌^◌, ◌≤◌};
+ghost use Rattle.std.specs.Prelude.{◌++◌, [], IsTrue, IfOk};
 ghost use Rattle.std.specs.Prelude.{length, min};
 
 use crate::PatternItem;
@@ -47,8 +48,10 @@ pub fn compile(
         × (pattern.items ≡ items_of escape (chars set text.now))) }
 {
     let mut items = List::new(alloc);
+    items.reserve(text.len())?;
     put_items(set, escape, text, &mut items)?;
     let mut literal_prefix = Weights::new(alloc);
+    literal_prefix.reserve(items.len())?;
     put_literals(items.as_slice(), &mut literal_prefix)?;
     Ok(Pattern {
         charset: set,

@@ -5,9 +5,11 @@ use Rattle.mc_charset.specs.Chars.{chars}
 use Rattle.mc_order.specs.Meaning.{IsCharOf}
 use Rattle.mc_like.specs.Items.{literal_count}
 use Rattle.mc_like.specs.Pattern.{AreOfSet, is_of_set}
-use Rattle.mc_like.proofs.Counts.{literal_count-any, literal_count-cons, literal_count-none, at_least_more}
+use Rattle.mc_like.proofs.Counts.{literal_count-any, literal_count-cons, literal_count-none}
+use Rattle.mc_like.proofs.Counts.{at_least_more}
 use Rattle.mc_like.proofs.Items.{is_char, no_items}
-use Rattle.mc_like.proofs.Passes.{at_any, at_text_end, at_misfit, at_one_more, at_items_end, at_both_ends}
+use Rattle.mc_like.proofs.Passes.{at_any, at_text_end, at_misfit, at_one_more, at_items_end}
+use Rattle.mc_like.proofs.Passes.{at_both_ends}
 use Rattle.mc_like.proofs.fit.fit_front.Goals as goal
 
 pub returns-in-Any-clause-fit : goal.returns-in-Any-clause-fit
