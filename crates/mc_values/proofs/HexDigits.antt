@@ -15,7 +15,8 @@ pair_ascii byte h zero = digit_ascii (byte / 16) (omega arith)
 pair_ascii byte h (suc zero) = digit_ascii (byte % 16) (omega arith)
 pair_ascii byte h (suc (suc i)) = omega arith
 
-digits_ascii : (bytes : List ℕ) → ((i : ℕ) → slice_index bytes i < 256) → IsAscii (hex_digits bytes)
+-- The digits are ASCII.
+pub digits_ascii : (bytes : List ℕ) → ((i : ℕ) → slice_index bytes i < 256) → IsAscii (hex_digits bytes)
 unfolding hex_digits
 digits_ascii [] h = IsAscii-nil
 digits_ascii (byte ∷ bytes) h =

@@ -9,6 +9,7 @@ ghost use Rattle.std.specs.Prelude.{
   length,
   take,
 };
+ghost use Rattle.std.specs.Str.{IsAscii};
 
 use mc_base::{NoMemory, Text};
 
@@ -17,6 +18,7 @@ pub fn push_hex(out: &mut Text, bytes: &[u8]) -> Result<(), NoMemory>
     ensures ok { OnOk result (out.new ≡ out.old ++ hex_digits bytes.now) }
     ensures err { OnErr result (out.new ≡ out.old) }
 {
+    out.reserve(bytes.len().saturating_mul(2))?;
     let len = out.len();
     match push_pairs(out, bytes) {
         Ok(()) => Ok(()),
@@ -60,9 +62,10 @@ fn hex_digit(value: u8) -> u8
     }
 }
 
-/// Hexadecimal digits are UTF-8.
+/// Hexadecimal digits are ASCII, and so UTF-8.
 pub fn hex_law(bytes: &[u8])
-    ensures { IsUtf8 (hex_digits bytes.now) }
+    ensures ascii { IsAscii (hex_digits bytes.now) }
+    ensures utf8 { IsUtf8 (hex_digits bytes.now) }
 {
     let _len = bytes.len();
 }
