@@ -1,4 +1,4 @@
-ghost use Rattle.mc_values.specs.Hexadecimal.{hex_digit, hex_digits, hex_pair};
+ghost use Rattle.mc_values.specs.Hexadecimal.{hex_digit, hex_digits, hex_pair, number_digits};
 ghost use Rattle.std.specs.Prelude.{
   ◌≡◌,
   ◌<◌,
@@ -12,6 +12,7 @@ ghost use Rattle.std.specs.Prelude.{
 ghost use Rattle.std.specs.Str.{IsAscii};
 
 use mc_base::{NoMemory, Text};
+use std::alloc::Global;
 
 /// Appends two digits for each byte, in upper case; without memory for all of them, none.
 pub fn push_hex(out: &mut Text, bytes: &[u8]) -> Result<(), NoMemory>
@@ -27,6 +28,16 @@ pub fn push_hex(out: &mut Text, bytes: &[u8]) -> Result<(), NoMemory>
             Err(NoMemory)
         }
     }
+}
+
+/// Appends the digits of the number's two's complement in 64 bits, in upper case, with no zeros in
+/// front, `0` for 0; without memory, none. MySQL 8.0 manual, 12.8, HEX.
+pub fn push_hex_number(alloc: Global, out: &mut Text, number: i64) -> Result<(), NoMemory>
+    ensures ok { OnOk result (out.new ≡ out.old ++ number_digits number) }
+    ensures err { OnErr result (out.new ≡ out.old) }
+{
+    let digits = format!(in alloc; "{number:X}")?;
+    out.extend_from_slice(digits.as_bytes())
 }
 
 /// Appends two digits for each byte, or without memory those of some first bytes.
