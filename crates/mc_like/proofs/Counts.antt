@@ -15,11 +15,13 @@ pub literal_count-literal : (code : ℕ) (items : List PatternItem) →
 unfolding literal_count
 literal_count-literal code items = refl
 
-pub literal_count-one : (items : List PatternItem) → literal_count (One ∷ items) ≡ literal_count items
+pub literal_count-one : (items : List PatternItem) →
+    literal_count (One ∷ items) ≡ literal_count items
 unfolding literal_count
 literal_count-one items = refl
 
-pub literal_count-any : (items : List PatternItem) → literal_count (Any ∷ items) ≡ literal_count items
+pub literal_count-any : (items : List PatternItem) →
+    literal_count (Any ∷ items) ≡ literal_count items
 unfolding literal_count
 literal_count-any items = refl
 

@@ -9,7 +9,8 @@ use Rattle.mc_like.specs.Fronts.{IsFit}
 use Rattle.mc_like.specs.Like.{Like}
 use Rattle.mc_like.proofs.Like.{Like-any_back}
 
-pub no_fit : (m : Meaning) (set : Charset) (items : List PatternItem) (codes : List ℕ) (answer : Fit) →
+pub no_fit : (m : Meaning) (set : Charset) (items : List PatternItem) (codes : List ℕ)
+    (answer : Fit) →
     IsFit m set items codes answer → (answer ≡ Misfit) ⊎ (answer ≡ Short) → Like m items codes → ⊥
 no_fit m set items codes Misfit fit e h = fit h
 no_fit m set items codes Short fit e h = fit (Like-any_back m items codes zero h)

@@ -18,7 +18,8 @@ unfolding items_of
 items_of-none escape = refl
 
 pub items_of-plain : (escape : Option ℕ) (code : ℕ) (codes : List ℕ) →
-    is_escape escape code ≡ false → items_of escape (code ∷ codes) ≡ item_of code ∷ items_of escape codes
+    is_escape escape code ≡ false →
+    items_of escape (code ∷ codes) ≡ item_of code ∷ items_of escape codes
 unfolding items_of
 items_of-plain escape code [] e =
     ap (λ b. (if b then Literal code else item_of code) ∷ []) e

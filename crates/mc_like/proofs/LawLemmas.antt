@@ -142,7 +142,8 @@ single_join m item items more code codes single joins (suc cut) h n =
     Like-single_back m item (items ++ more) code codes single parts.0
     ((joins codes).1 (cut, parts.1, n))
 
-joined_single : (m : Meaning) (item : PatternItem) (items more : List PatternItem) (codes : List ℕ) →
+joined_single : (m : Meaning) (item : PatternItem) (items more : List PatternItem)
+    (codes : List ℕ) →
     IsSingle item → Joins m items more →
     Like m (item ∷ (items ++ more)) codes ↔ Cuts m (item ∷ items) more codes
 joined_single m item items more [] single joins = (

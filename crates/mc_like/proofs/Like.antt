@@ -28,7 +28,8 @@ Like-end_right m (Literal literal) items single h = h
 Like-end_right m One items single h = h
 Like-end_right m Any items single h = absurd (single.other refl)
 
-pub Like-single : (m : Meaning) (item : PatternItem) (items : List PatternItem) (code : ℕ) (codes : List ℕ) →
+pub Like-single : (m : Meaning) (item : PatternItem) (items : List PatternItem) (code : ℕ)
+    (codes : List ℕ) →
     IsSingle item → Like m (item ∷ items) (code ∷ codes) → Takes m item code × Like m items codes
 unfolding Like
 Like-single m (Literal literal) items code codes single h = h
@@ -43,7 +44,8 @@ Like-single_back m (Literal literal) items code codes single t h = (t, h)
 Like-single_back m One items code codes single t h = h
 Like-single_back m Any items code codes single t h = absurd (single.other refl)
 
-pub Like-any : (m : Meaning) (items : List PatternItem) (codes : List ℕ) → Like m (Any ∷ items) codes →
+pub Like-any : (m : Meaning) (items : List PatternItem) (codes : List ℕ) →
+    Like m (Any ∷ items) codes →
     (cut : ℕ) × Like m items (drop cut codes)
 unfolding Like
 Like-any m items codes h = h
@@ -58,7 +60,8 @@ drop-one_more zero codes = refl
 drop-one_more (suc k) [] = refl
 drop-one_more (suc k) (code ∷ codes) = drop-one_more k codes
 
-single_tail : (m : Meaning) (item : PatternItem) (items : List PatternItem) (codes : List ℕ) → IsSingle item →
+single_tail : (m : Meaning) (item : PatternItem) (items : List PatternItem) (codes : List ℕ) →
+    IsSingle item →
     Like m (item ∷ items) codes → Like m items (drop 1 codes)
 single_tail m item items [] single h = absurd (Like-end_right m item items single h)
 single_tail m item items (code ∷ codes) single h = (Like-single m item items code codes single h).1

@@ -31,8 +31,8 @@ passes_none m items codes = record {
   one_each = refl;
 }
 
-passes_one : (m : Meaning) (items more : List PatternItem) (codes rest : List ℕ) (item : PatternItem)
-    (code : ℕ) → IsSingle item → Takes m item code →
+passes_one : (m : Meaning) (items more : List PatternItem) (codes rest : List ℕ)
+    (item : PatternItem) (code : ℕ) → IsSingle item → Takes m item code →
     Passes m items (item ∷ more) codes (code ∷ rest) → Passes m items more codes rest
 passes_one m items more codes rest item code single takes p = record {
   forward = λ k h. single_behind m item more k code rest single (p.forward k h);
@@ -46,7 +46,8 @@ passes_one m items more codes rest item code single takes p = record {
 moved : (m : Meaning) (items left others : List PatternItem) (codes rest more : List ℕ) →
     left ≡ others → rest ≡ more → Passes m items left codes rest → Passes m items others codes more
 moved m items left others codes rest more e f p =
-    subst (Passes m items others codes) f (subst (λ (l : List PatternItem). Passes m items l codes rest) e p)
+    subst (Passes m items others codes) f
+    (subst (λ (l : List PatternItem). Passes m items l codes rest) e p)
 
 pub at_one_more : (m : Meaning) (items left more : List PatternItem) (codes rest behind : List ℕ)
     (item : PatternItem) (code : ℕ) → Passes m items left codes rest → left ≡ item ∷ more →
@@ -55,7 +56,8 @@ at_one_more m items left more codes rest behind item code p e f single takes =
     passes_one m items more codes behind item code single takes
     (moved m items left (item ∷ more) codes rest (code ∷ behind) e f p)
 
-pub at_any : (m : Meaning) (items left more : List PatternItem) (codes rest : List ℕ) (item : PatternItem) →
+pub at_any : (m : Meaning) (items left more : List PatternItem) (codes rest : List ℕ)
+    (item : PatternItem) →
     Passes m items left codes rest → left ≡ item ∷ more → item ≡ Any →
     Reaches m items more codes rest
 at_any m items left more codes rest item p' e any =

@@ -14,7 +14,8 @@ pub returns-then-is_empty-clause-exact : goal.returns-then-is_empty-clause-exact
 returns-then-is_empty-clause-exact g c =
     let m = g.C.Collation.meaning c.args.collation.now in
     let codes = chars g.E.Encoding.set c.args.text.now in
-    let none = no_items c.args.items.now (is_zero (length c.args.items.now) c.if-is_empty.ensures) in (
+    let none = no_items c.args.items.now
+    (is_zero (length c.args.items.now) c.if-is_empty.ensures) in (
       λ h. subst (λ (items : List PatternItem). Like m (Any ∷ items) codes) (sym none)
           (any_alone m codes),
       λ h. refl,
@@ -22,7 +23,8 @@ returns-then-is_empty-clause-exact g c =
 
 pub returns-then-is_empty-clause-each_literal : goal.returns-then-is_empty-clause-each_literal
 returns-then-is_empty-clause-each_literal g c =
-    let none = no_items c.args.items.now (is_zero (length c.args.items.now) c.if-is_empty.ensures) in
+    let none = no_items c.args.items.now
+    (is_zero (length c.args.items.now) c.if-is_empty.ensures) in
     let count = ap literal_count none ∙ literal_count-none in λ h. omega (arith, count)
 
 pub returns-then-count-items-clause-exact : goal.returns-then-count-items-clause-exact

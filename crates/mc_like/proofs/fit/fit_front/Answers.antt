@@ -79,7 +79,8 @@ returns-then-not-is_taken g c = record {
 pub loop-item-preserved : goal.loop-item-preserved
 loop-item-preserved g c =
     let cases = c.in-Some.ensures.cases in
-    let count = ap literal_count cases.0 ∙ literal_count-cons c.in-Some.item.now c.in-Some.more.now in (
+    let count = ap literal_count cases.0
+    ∙ literal_count-cons c.in-Some.item.now c.in-Some.more.now in (
       at_one_more (g.C.Collation.meaning c.args.collation.now) c.args.items.now
           c.loop-item.left.now c.in-Some.more.now (chars g.E.Encoding.set c.args.text.now)
           (chars g.E.Encoding.set c.loop-item.rest.now)
