@@ -1,11 +1,10 @@
 -- The answer of LIKE is what LIKE says.
-use Rattle.std.proofs.Common.{◌≡◌, ◌↔◌, ℕ, zero, suc, ◌≤◌, Bool, true, false, IsTrue, List, [], ◌∷◌}
+use Rattle.std.proofs.Common.{◌≡◌, ◌↔◌, ℕ, zero, suc, ◌≤◌, Bool, true, IsTrue, List, [], ◌∷◌}
 use Rattle.std.proofs.Common.{length, drop, refl, sym, ◌∙◌, subst, inl, inr, arith}
 use Rattle.std.proofs.lemmas.Bool.{and_from, and_parts, cases_lt, or_cases, or_left, or_right}
 use Rattle.std.proofs.lemmas.List.{drop_all}
 use Rattle.std.proofs.lemmas.Slice.Eq.{bytes_eq-Decides}
 use Rattle.mc_order.specs.Meaning.{Meaning, flat_list}
-use Rattle.mc_like.specs.declared.item.PatternItem.{PatternItem}
 use Rattle.mc_like.specs.declared.item.PatternItem.TheVariants.{Literal, One, Any}
 use Rattle.mc_like.specs.Laws.{LikeIsAnswered}
 use Rattle.mc_like.specs.Like.{Like, is_like, is_same_char, some_up_to}

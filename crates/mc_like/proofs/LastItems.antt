@@ -1,7 +1,6 @@
 -- Items behind the last `%`: the one place at which they can match.
 use Rattle.std.proofs.Common.{◌≡◌, ℕ, zero, suc, ◌+◌, ◌-◌, ◌≤◌, true, false, true≢false, List, []}
 use Rattle.std.proofs.Common.{◌∷◌, length, drop, length-drop, refl, ap, sym, ◌∙◌, subst, arith}
-use Rattle.std.proofs.Math.Seq.{drop-nil}
 use Rattle.mc_charset.specs.declared.charset.Charset.{Charset}
 use Rattle.mc_order.specs.Meaning.{Meaning}
 use Rattle.mc_like.specs.declared.fit.Fit.{Fit}

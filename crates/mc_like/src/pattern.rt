@@ -48,10 +48,8 @@ pub fn compile(
         × (pattern.items ≡ items_of escape (chars set text.now))) }
 {
     let mut items = List::new(alloc);
-    items.reserve(text.len())?;
     put_items(set, escape, text, &mut items)?;
     let mut literal_prefix = Weights::new(alloc);
-    literal_prefix.reserve(items.len())?;
     put_literals(items.as_slice(), &mut literal_prefix)?;
     Ok(Pattern {
         charset: set,
@@ -65,6 +63,7 @@ pub fn compile(
 fn put_literals(items: &[PatternItem], literals: &mut Weights) -> Result<(), NoMemory>
     ensures { IfOk result (λ _. literals.new ≡ literals.old ++ literal_front items.now) }
 {
+    literals.reserve(items.len())?;
     let mut left = items;
     while let Some((item, more)) = left.split_first() {
         let PatternItem::Literal(code) = *item else {

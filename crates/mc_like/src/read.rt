@@ -20,6 +20,7 @@ pub(crate) fn put_items(
         (λ _. items.new ≡ items.old ++ items_of escape (chars set text.now)) }
     ensures of_set { AreOfSet set items.new }
 {
+    items.reserve(text.len())?;
     let mut rest = text;
     while let Some((item, behind)) = next_item(set, escape, rest) {
         items.push(item)?;

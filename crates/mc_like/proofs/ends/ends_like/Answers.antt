@@ -1,4 +1,4 @@
-use Rattle.std.proofs.Common.{◌≡◌, ◌∷◌, ◌-◌, List, drop, length, refl, ap, sym, ◌∙◌, subst, arith}
+use Rattle.std.proofs.Common.{◌∷◌, ◌-◌, List, drop, length, refl, ap, sym, ◌∙◌, subst, arith}
 use Rattle.mc_charset.specs.Chars.{chars}
 use Rattle.mc_like.specs.declared.item.PatternItem.{PatternItem}
 use Rattle.mc_like.specs.declared.item.PatternItem.TheVariants.{Any}

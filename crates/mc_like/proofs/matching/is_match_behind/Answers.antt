@@ -1,12 +1,7 @@
-use Rattle.std.proofs.Common.{◌≡◌, ◌∷◌, zero, suc, List, length, refl, ap, sym, ◌∙◌, subst, arith}
+use Rattle.std.proofs.Common.{◌≡◌, zero, suc, length, refl, ap, arith}
 use Rattle.mc_charset.specs.Chars.{chars}
-use Rattle.mc_like.specs.declared.item.PatternItem.{PatternItem}
-use Rattle.mc_like.specs.declared.item.PatternItem.TheVariants.{Any}
-use Rattle.mc_like.specs.Items.{literal_count}
-use Rattle.mc_like.specs.Like.{Like}
-use Rattle.mc_like.proofs.Counts.{at_most_misfit, is_zero, literal_count-none}
-use Rattle.mc_like.proofs.Items.{no_items}
-use Rattle.mc_like.proofs.Like.{Like-any_back, any_alone, any_goes_on, any_nowhere}
+use Rattle.mc_like.proofs.Counts.{at_most_misfit}
+use Rattle.mc_like.proofs.Like.{Like-any_back, any_goes_on, any_nowhere}
 use Rattle.mc_like.proofs.matching.is_match_behind.Goals as goal
 
 pub returns-in-Whole-clause-exact : goal.returns-in-Whole-clause-exact
