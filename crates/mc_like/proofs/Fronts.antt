@@ -4,12 +4,13 @@ use Rattle.mc_charset.specs.declared.charset.Charset.{Charset}
 use Rattle.mc_order.specs.Meaning.{Meaning}
 use Rattle.mc_like.specs.declared.fit.Fit.{Fit}
 use Rattle.mc_like.specs.declared.fit.Fit.TheVariants.{Misfit, Short, Whole, Gap}
-use Rattle.mc_like.specs.declared.item.Item.{Item}
-use Rattle.mc_like.specs.Fits.{IsFit}
+use Rattle.mc_like.specs.declared.item.PatternItem.{PatternItem}
+use Rattle.mc_like.specs.Fronts.{IsFit}
 use Rattle.mc_like.specs.Like.{Like}
 use Rattle.mc_like.proofs.Like.{Like-any_back}
 
-pub no_fit : (m : Meaning) (set : Charset) (items : List Item) (codes : List ℕ) (answer : Fit) →
+pub no_fit : (m : Meaning) (set : Charset) (items : List PatternItem) (codes : List ℕ)
+    (answer : Fit) →
     IsFit m set items codes answer → (answer ≡ Misfit) ⊎ (answer ≡ Short) → Like m items codes → ⊥
 no_fit m set items codes Misfit fit e h = fit h
 no_fit m set items codes Short fit e h = fit (Like-any_back m items codes zero h)
