@@ -11,8 +11,8 @@ use Rattle.mc_order.specs.declared.pad.Pad.{Pad}
 use Rattle.mc_order.specs.declared.pad.Pad.TheVariants.{PadSpace, NoPad}
 use Rattle.mc_order.specs.Laws.{greatest_weight}
 use Rattle.mc_order.specs.Order.{order_to_end, list_order}
-use Rattle.mc_key.specs.Keys.{in_front, without_spaces, kept_list, top}
-use Rattle.mc_key.specs.Laws.{SpacesFallAway}
+use Rattle.mc_key.specs.Keys.{SeenKey, in_front, without_spaces, kept_list, top}
+use Rattle.mc_key.specs.Laws.{SpacesFallAway, KeysAreOrdered, EqualKeysAreOneList}
 use Rattle.mc_key.proofs.Kept.{in_front_space, in_front_other}
 
 in_front_falls : (space weight n : ℕ) (kept list : List ℕ) →
@@ -148,6 +148,28 @@ kept_alike_equal fronts total pad space list other e =
     sym (keys_compare fronts total pad space list other)
     ∙ ap (λ l. list_order pad space l (kept_list pad space other)) e
     ∙ tied_itself (total pad space) (kept_list pad space other)
+
+pub keys_are_ordered : AreTotal → KeysAreOrdered
+keys_are_ordered total pad space =
+    let order = total pad space in
+    let kept = kept_list pad space in
+    record {
+      antisymm = λ x y. order.antisymm (kept x) (kept y);
+      trans = λ x y z. order.trans (kept x) (kept y) (kept z);
+      congr = λ x y z. order.congr (kept x) (kept y) (kept z);
+    }
+
+pub equal_keys : FrontsFallAway → AreTotal →
+    ((space : ℕ) (a b : List ℕ) → list_order NoPad space a b ≡ Equal → a ≡ b) →
+    EqualKeysAreOneList
+equal_keys fronts total same a b same_pad same_space = (
+  λ h. sym a.is_kept
+      ∙ equal_kept_alike fronts total same a.pad a.space a.weights b.weights h
+      ∙ ap (λ pad. kept_list pad a.space b.weights) same_pad
+      ∙ ap (λ space. kept_list b.pad space b.weights) same_space ∙ b.is_kept,
+  λ e. ap (list_order a.pad a.space a.weights) (sym e)
+      ∙ tied_itself (total a.pad a.space) a.weights,
+)
 
 then_less : (o r : Ordering) → o ≡ Less → ordering_then o r ≡ Less
 then_less o r e = ap (λ p. ordering_then p r) e

@@ -1,5 +1,5 @@
 -- Keys and bounds: weight lists, kept so that equal keys are one list (MySQL 8.0 manual, 10.8.5).
-use Rattle.std.specs.Prelude.{◌≡◌, ◌==◌, ◌||◌, ℕ, nat_le, Bool, IsTrue, List, [], ◌∷◌, if◌then◌else◌}
+use Rattle.std.specs.Prelude.{◌≡◌, ◌==◌, ◌||◌, ℕ, ◌≤◌, nat_le, Bool, IsTrue, List, [], ◌∷◌, if◌then◌else◌}
 use Rattle.std.specs.List.{All}
 use Rattle.mc_order.specs.declared.pad.Pad.{Pad}
 use Rattle.mc_order.specs.declared.pad.Pad.TheVariants.{PadSpace, NoPad}
@@ -43,9 +43,10 @@ is_bound_number number = (number == top) || nat_le number greatest_weight
 abbrev pub AreBoundNumbers : List ℕ → Type 0
 AreBoundNumbers numbers = All (λ number. IsTrue (is_bound_number number)) numbers
 
--- a bound: its numbers, its padding and its space
+-- a bound: its numbers, its padding and its space, which is no greater than a weight may be
 pub record SeenBound : Type 0 where
   pub numbers : List ℕ
   pub pad : Pad
   pub space : ℕ
-  pub bounded : AreBoundNumbers numbers
+  pub are_numbers : AreBoundNumbers numbers
+  pub space_bounded : space ≤ greatest_weight

@@ -19,7 +19,8 @@ pub struct Bound {
     numbers: Weights,
     pad: Pad,
     space: u32,
-    ghost bounded: { AreBoundNumbers numbers },
+    ghost are_numbers: { AreBoundNumbers numbers },
+    ghost space_bounded: { space ≤ greatest_weight },
 }
 
 impl Model for Bound {
@@ -31,7 +32,8 @@ impl Model for Bound {
       numbers = bound.numbers;
       pad = bound.pad;
       space = bound.space;
-      bounded = bound.bounded;
+      are_numbers = bound.are_numbers;
+      space_bounded = bound.space_bounded;
     } };
 }
 

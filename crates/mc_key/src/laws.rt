@@ -1,6 +1,6 @@
 ghost use Rattle.mc_key.specs.Laws.{SpacesFallAway, KeptStays, KeptComparesAlike};
-ghost use Rattle.mc_key.specs.Laws.{KeysCompareAlike, EqualAreKeptAlike};
-ghost use Rattle.mc_key.specs.Laws.{TopIsAbove, TopIsAboveEnd};
+ghost use Rattle.mc_key.specs.Laws.{KeysCompareAlike, EqualAreKeptAlike, KeysAreOrdered};
+ghost use Rattle.mc_key.specs.Laws.{EqualKeysAreOneList, TopIsAbove, TopIsAboveEnd};
 
 use mc_order::order_laws;
 
@@ -12,6 +12,8 @@ pub fn key_laws()
     ensures bounds { KeptComparesAlike }
     ensures keys { KeysCompareAlike }
     ensures equal { EqualAreKeptAlike }
+    ensures total { KeysAreOrdered }
+    ensures one_list { EqualKeysAreOneList }
     ensures top { TopIsAbove }
     ensures top_end { TopIsAboveEnd }
 {

@@ -1,4 +1,4 @@
-use Rattle.mc_key.proofs.Alike.{spaces_fall_away, kept_compares, keys_compare, equal_kept_alike, kept_alike_equal, top_is_above, top_is_above_end}
+use Rattle.mc_key.proofs.Alike.{spaces_fall_away, kept_compares, keys_compare, equal_kept_alike, kept_alike_equal, keys_are_ordered, equal_keys, top_is_above, top_is_above_end}
 use Rattle.mc_key.proofs.Kept.{kept_again}
 use Rattle.mc_key.proofs.laws.key_laws.Goals as goal
 
@@ -14,6 +14,8 @@ returns c =
         equal_kept_alike order.front order.total order.same pad space list other,
         kept_alike_equal order.front order.total pad space list other,
       );
+      total = keys_are_ordered order.total;
+      one_list = equal_keys order.front order.total order.same;
       top = top_is_above order.front;
       top_end = top_is_above_end order.front;
     }
