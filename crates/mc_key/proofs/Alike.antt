@@ -1,5 +1,5 @@
 -- Keys compare as the whole lists do.
-use Rattle.std.proofs.Common.{◌≡◌, ◌≢◌, ℕ, zero, suc, ◌<◌, ◌≤◌, List, [], ◌∷◌, ◌++◌, append-nil, refl, sym, ap, ◌∙◌, ⊎_elim, arith}
+use Rattle.std.proofs.Common.{◌≡◌, ℕ, zero, suc, ◌≤◌, List, [], ◌∷◌, ◌++◌, append-nil, refl, sym, ap, ◌∙◌, ⊎_elim, arith}
 use Rattle.std.specs.declared.cmp.Ordering.{Ordering}
 use Rattle.std.specs.declared.cmp.Ordering.TheVariants.{Less, Equal, Greater}
 use Rattle.std.specs.Ordering.{nat_cmp, ordering_then, ordering_reverse}
@@ -11,7 +11,7 @@ use Rattle.mc_order.specs.declared.pad.Pad.{Pad}
 use Rattle.mc_order.specs.declared.pad.Pad.TheVariants.{PadSpace, NoPad}
 use Rattle.mc_order.specs.Laws.{greatest_weight}
 use Rattle.mc_order.specs.Order.{order_to_end, list_order}
-use Rattle.mc_key.specs.Keys.{SeenKey, in_front, without_spaces, kept_list, top}
+use Rattle.mc_key.specs.Keys.{in_front, without_spaces, kept_list, top}
 use Rattle.mc_key.specs.Laws.{SpacesFallAway, KeysAreOrdered, EqualKeysAreOneList}
 use Rattle.mc_key.proofs.Kept.{in_front_space, in_front_other}
 

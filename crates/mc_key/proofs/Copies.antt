@@ -4,7 +4,7 @@ use Rattle.std.specs.List.{repeat}
 use Rattle.mc_charset.specs.declared.charset.Charset.{Charset}
 use Rattle.mc_charset.specs.declared.charset.Charset.TheVariants.{Latin1, Ascii, Utf8mb3, Utf8mb4}
 use Rattle.mc_charset.specs.declared.charset.Charset.TheVariants.{Ucs2, Utf16, Utf32, Binary}
-use Rattle.mc_charset.specs.Chars.{Spells, IsWellFormed, chars, spell, spell_all}
+use Rattle.mc_charset.specs.Chars.{Spells, spell, spell_all}
 use Rattle.mc_key.specs.WeightString.{space_code}
 
 repeat_last : (n : ℕ) (xs : List ℕ) → repeat n xs ++ xs ≡ repeat (suc n) xs

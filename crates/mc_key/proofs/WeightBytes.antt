@@ -1,7 +1,6 @@
 -- The bytes of weights.
-use Rattle.std.proofs.Common.{◌≡◌, ℕ, zero, suc, ◌*◌, ◌+◌, ◌-◌, ◌≤◌, take, drop, List, [], ◌∷◌, ◌++◌, length, length-append, w32, refl, sym, ap, ◌∙◌, arith}
+use Rattle.std.proofs.Common.{◌≡◌, ℕ, zero, suc, ◌*◌, ◌+◌, ◌-◌, ◌≤◌, take, drop, List, [], ◌∷◌, length, length-append, w32, refl, ap, ◌∙◌, arith}
 use Rattle.std.specs.Int.{bytes_high_first, to_be_bytes}
-use Rattle.std.specs.List.{flat_map}
 use Rattle.mc_key.specs.WeightString.{weight_bytes, list_bytes}
 
 bytes_high_first-length : (width n : ℕ) → length (bytes_high_first width n) ≡ width

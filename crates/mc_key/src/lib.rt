@@ -9,7 +9,7 @@
 //! Read the modules in this order: `key`, `bound`, `weight_form`, `padding` (a text with spaces
 //! behind it), `strings`; and `laws`, which other crates prove with.
 //!
-//! `make_key(Global, &collation, text, None)` is made once a row, and `compare_key` takes no memory.
+//! `make_key(Global, &collation, text, None)` is made once a row; `compare_key` takes no memory.
 #![tactic(auto)]
 
 mod bound;

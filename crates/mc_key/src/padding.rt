@@ -1,7 +1,8 @@
 ghost use Rattle.mc_charset.specs.Chars.{IsWellFormed, Spells, chars, spell};
 ghost use Rattle.mc_key.specs.WeightString.{space_code};
 ghost use Rattle.std.specs.List.{repeat};
-ghost use Rattle.std.specs.Prelude.{◌≡◌, ◌-◌, ◌≤◌, ◌++◌, ◌∷◌, [], Some, IfOk, length};
+ghost use Rattle.std.specs.Prelude.{◌≡◌, ◌-◌, ◌≤◌, ◌++◌, ◌∷◌, []};
+ghost use Rattle.std.specs.Prelude.{Some, IfOk, length};
 
 use mc_base::{NoMemory, Text};
 use mc_charset::{CharAt, Charset, chars_law, next_char};

@@ -1,4 +1,4 @@
-use Rattle.std.proofs.Common.{◌∙◌, ap, ◌++◌, ◌∷◌, [], ◌-◌, take, arith}
+use Rattle.std.proofs.Common.{◌∙◌, ap, ◌++◌, ◌∷◌, [], ◌-◌, take}
 use Rattle.std.specs.List.{repeat}
 use Rattle.mc_key.proofs.Fitted.{filled_up}
 use Rattle.mc_key.proofs.strings.fitted_bytes.Goals as goal
