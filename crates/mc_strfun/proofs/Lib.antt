@@ -5,4 +5,5 @@ pub mod Joined
 pub mod Paddings
 pub mod Backwards
 pub mod Replaced
+pub mod Trimmed
 mod StandardFacts

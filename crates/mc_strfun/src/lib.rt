@@ -8,7 +8,7 @@
 //! Read the modules in this order: `number` (numbers of characters), `part` (the slice that some
 //! characters of a text spell), `slices` (LEFT, RIGHT, SUBSTRING), `copies` (REPEAT), `joins`
 //! (CONCAT, CONCAT_WS), `pads` (LPAD, RPAD), `reversal` (REVERSE), `replacement` (REPLACE),
-//! `digits` (HEX), and `laws`, which other crates prove with.
+//! `trimming` (TRIM), `digits` (HEX), and `laws`, which other crates prove with.
 #![tactic(auto)]
 
 mod copies;
@@ -21,6 +21,7 @@ mod part;
 mod replacement;
 mod reversal;
 mod slices;
+mod trimming;
 
 pub use copies::repeat;
 pub use digits::hex;
@@ -30,3 +31,4 @@ pub use pads::{lpad, rpad};
 pub use replacement::replace;
 pub use reversal::reverse;
 pub use slices::{left, right, substring};
+pub use trimming::{Side, trim};
