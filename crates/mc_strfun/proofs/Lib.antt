@@ -6,4 +6,5 @@ pub mod Paddings
 pub mod Backwards
 pub mod Replaced
 pub mod Trimmed
+pub mod LeftOver
 mod StandardFacts

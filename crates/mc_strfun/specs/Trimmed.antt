@@ -1,6 +1,7 @@
 -- Copies of some characters removed at the sides: MySQL 8.0 manual, 12.8, TRIM.
-use Rattle.std.specs.Prelude.{ℕ, zero, suc, ◌-◌, List, [], ◌∷◌, length, reverse}
+use Rattle.std.specs.Prelude.{◌≡◌, ◌≢◌, ℕ, zero, suc, ◌-◌, List, [], ◌∷◌, ◌++◌, length, reverse}
 use Rattle.std.specs.Prelude.{if◌then◌else◌}
+use Rattle.std.specs.List.{repeat}
 use Rattle.mc_strfun.specs.Replaced.{begins}
 use Rattle.mc_strfun.specs.declared.trimming.Side.{Side}
 use Rattle.mc_strfun.specs.declared.trimming.Side.TheVariants.{Both, Leading, Trailing}
@@ -27,3 +28,15 @@ abbrev pub trimmed : Side → List ℕ → List ℕ → List ℕ
 trimmed Both removed codes = without_trailing removed (without_leading removed codes)
 trimmed Leading removed codes = without_leading removed codes
 trimmed Trailing removed codes = without_trailing removed codes
+
+-- So many whole copies stand before what is left, which begins with none.
+pub record IsLeftBehind (removed codes left : List ℕ) : Type 0 where
+  pub copies : ℕ
+  pub joins : codes ≡ repeat copies removed ++ left
+  pub no_more : (others : List ℕ) → left ≢ removed ++ others
+
+-- So many whole copies stand behind what is left, which ends with none.
+pub record IsLeftBefore (removed codes left : List ℕ) : Type 0 where
+  pub copies : ℕ
+  pub joins : codes ≡ left ++ repeat copies removed
+  pub no_more : (others : List ℕ) → left ≢ others ++ removed

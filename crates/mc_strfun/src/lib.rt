@@ -26,7 +26,7 @@ mod trimming;
 pub use copies::repeat;
 pub use digits::hex;
 pub use joins::{concat, concat_ws};
-pub use laws::repeat_law;
+pub use laws::{repeat_law, trim_law};
 pub use pads::{lpad, rpad};
 pub use replacement::replace;
 pub use reversal::reverse;
