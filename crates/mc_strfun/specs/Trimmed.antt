@@ -1,5 +1,6 @@
 -- Copies of some characters removed at the sides: MySQL 8.0 manual, 12.8, TRIM.
-use Rattle.std.specs.Prelude.{◌≡◌, ◌≢◌, ℕ, zero, suc, ◌-◌, List, [], ◌∷◌, ◌++◌, length, reverse}
+use Rattle.std.specs.Prelude.{◌≡◌, ◌≢◌, ℕ, zero, suc, ◌-◌}
+use Rattle.std.specs.Prelude.{List, [], ◌∷◌, ◌++◌, length, reverse}
 use Rattle.std.specs.Prelude.{if◌then◌else◌}
 use Rattle.std.specs.List.{repeat}
 use Rattle.mc_strfun.specs.Replaced.{begins}
