@@ -1,7 +1,7 @@
 ghost use Rattle.mc_charset.specs.Chars.{Spells, chars, IsWellFormed};
 ghost use Rattle.mc_charset.specs.declared.charset.Charset.{Charset};
 ghost use Rattle.mc_strfun.specs.Trimmed.{trimmed, without_leading, without_trailing};
-ghost use Rattle.std.specs.Prelude.{◌<◌, IfOk, length};
+ghost use Rattle.std.specs.Prelude.{◌≡◌, ◌↔◌, ◌<◌, ◌-◌, IfOk, IsTrue, drop, length};
 
 use crate::replacement::begins;
 use crate::reversal::backwards;
@@ -68,7 +68,17 @@ fn trim_end(alloc: Global, set: Charset, removed: &[u8], text: &[u8]) -> Result<
         (Spells set (without_trailing (chars set removed.now) (chars set text.now))) }
 {
     chars_law();
+    if !ends(text, removed) {
+        return Text::from_slice(alloc, text);
+    }
     let removed = backwards(alloc, set, removed)?;
     let text = backwards(alloc, set, text)?;
     backwards(alloc, set, trim_front(removed.as_slice(), text.as_slice()))
+}
+
+/// Whether the text ends with these bytes.
+fn ends(text: &[u8], back: &[u8]) -> bool
+    ensures { IsTrue result ↔ (drop (length text.now - length back.now) text.now ≡ back.now) }
+{
+    text.ends_with(back)
 }
