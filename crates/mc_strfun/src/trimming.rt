@@ -1,7 +1,16 @@
 ghost use Rattle.mc_charset.specs.Chars.{Spells, chars, IsWellFormed};
 ghost use Rattle.mc_charset.specs.declared.charset.Charset.{Charset};
 ghost use Rattle.mc_strfun.specs.Trimmed.{trimmed, without_leading, without_trailing};
-ghost use Rattle.std.specs.Prelude.{◌≡◌, ◌↔◌, ◌<◌, ◌-◌, IfOk, IsTrue, drop, length};
+ghost use Rattle.std.specs.Prelude.{
+  ◌≡◌,
+  ◌↔◌,
+  ◌<◌,
+  ◌-◌,
+  IfOk,
+  IsTrue,
+  drop,
+  length,
+};
 
 use crate::replacement::begins;
 use crate::reversal::backwards;
