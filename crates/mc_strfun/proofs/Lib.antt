@@ -5,4 +5,6 @@ pub mod Joined
 pub mod Paddings
 pub mod Backwards
 pub mod Replaced
+pub mod Trimmed
+pub mod LeftOver
 mod StandardFacts

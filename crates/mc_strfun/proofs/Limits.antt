@@ -15,7 +15,7 @@ within_limit-fits text h = grind (arith, nat_tests)
 pub within_limit-long : (text : List ℕ) → greatest_string < length text → within_limit text ≡ None
 within_limit-long text h = grind (arith, nat_tests)
 
-repeat_last : (n : ℕ) (xs : List ℕ) → repeat n xs ++ xs ≡ repeat (suc n) xs
+pub repeat_last : (n : ℕ) (xs : List ℕ) → repeat n xs ++ xs ≡ repeat (suc n) xs
 repeat_last zero xs = sym (append-nil xs)
 repeat_last (suc n) xs = append_assoc xs (repeat n xs) xs ∙ ap (λ ys. xs ++ ys) (repeat_last n xs)
 

@@ -24,11 +24,11 @@ unfolding replaced_behind
 passed_all from to [] codes = refl
 passed_all from to (c ∷ front) codes = passed_all from to front codes
 
-by_begins : (b : Bool) (A B : List ℕ) → b ≡ true → cond b A B ≡ A
+pub by_begins : (b : Bool) (A B : List ℕ) → b ≡ true → cond b A B ≡ A
 by_begins true A B e = refl
 by_begins false A B e = absurd (cc)
 
-by_not : (b : Bool) (A B : List ℕ) → b ≡ false → cond b A B ≡ B
+pub by_not : (b : Bool) (A B : List ℕ) → b ≡ false → cond b A B ≡ B
 by_not true A B e = absurd (cc)
 by_not false A B e = refl
 
@@ -99,7 +99,7 @@ pub record IsPiece (set : Charset) (from to text : List ℕ) (at next : ℕ) (by
 abbrev Encodes : Type 0
 Encodes = (set : Charset) (text : List ℕ) → IsWellFormed set text → Spells set (chars set text) text
 
-split_codes : (front codes : List ℕ) → take (length front) codes ≡ front → codes ≡ front ++ drop (length front) codes
+pub split_codes : (front codes : List ℕ) → take (length front) codes ≡ front → codes ≡ front ++ drop (length front) codes
 split_codes front codes e = sym (take-append-drop (length front) codes) ∙ ap (λ x. x ++ drop (length front) codes) e
 
 -- The bytes of a text's front are those of some characters, so its characters are these and others.
@@ -129,7 +129,7 @@ pub copied : (set : Charset) (from to bytes from_bytes text : List ℕ) (at : �
 copied set [] to bytes from_bytes text at f h b t r a e = absurd (omega (arith, h))
 copied set (first ∷ others) to bytes from_bytes text at f h b t r a e = copy_piece set to bytes from_bytes text at first others f b t r a e
 
-not_begun : (set : Charset) (from from_bytes rest : List ℕ) → Spells set from from_bytes → Spells set (chars set rest) rest → (take (length from_bytes) rest ≡ from_bytes → ⊥)
+pub not_begun : (set : Charset) (from from_bytes rest : List ℕ) → Spells set from from_bytes → Spells set (chars set rest) rest → (take (length from_bytes) rest ≡ from_bytes → ⊥)
     → (b : Bool) → begins from (chars set rest) ≡ b → begins from (chars set rest) ≡ false
 not_begun set from from_bytes rest f r no_copy false e = e
 not_begun set from from_bytes rest f r no_copy true e =

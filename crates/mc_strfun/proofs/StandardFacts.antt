@@ -5,6 +5,8 @@ use Rattle.mc_strfun.specs.Joins.{joined_with}
 use Rattle.mc_strfun.specs.Pads.{left_padded, right_padded}
 use Rattle.mc_strfun.specs.Replaced.{replaced, replaced_behind}
 use Rattle.mc_strfun.specs.Slices.{left_of, right_of, substring_of}
+use Rattle.mc_strfun.specs.Trimmed.{behind_copies, trimmed, without_trailing}
+use Rattle.mc_strfun.specs.declared.trimming.Side.TheVariants.{Both, Leading, Trailing}
 
 -- SUBSTRING('Quadratically',5), ('Quadratically',5,6), ('Sakila',-3), and the number 0.
 behind_four : substring_of (pos 5) None (codes "Quadratically") ≡ codes "ratically"
@@ -69,3 +71,34 @@ each_w = refl
 without_overlap : replaced (codes "aa") (codes "b") (codes "aaa") ≡ codes "ba"
 unfolding replaced_behind
 without_overlap = refl
+
+-- TRIM('  bar   '), TRIM(LEADING 'x' FROM 'xxxbarxxx'), TRIM(BOTH 'x' FROM 'xxxbarxxx'),
+-- TRIM(TRAILING 'xyz' FROM 'barxxyz').
+both_spaces : trimmed Both (codes " ") (codes "  bar   ") ≡ codes "bar"
+unfolding behind_copies without_trailing
+both_spaces = refl
+
+leading_x : trimmed Leading (codes "x") (codes "xxxbarxxx") ≡ codes "barxxx"
+unfolding behind_copies
+leading_x = refl
+
+both_x : trimmed Both (codes "x") (codes "xxxbarxxx") ≡ codes "bar"
+unfolding behind_copies without_trailing
+both_x = refl
+
+trailing_xyz : trimmed Trailing (codes "xyz") (codes "barxxyz") ≡ codes "barx"
+unfolding behind_copies without_trailing
+trailing_xyz = refl
+
+-- Whole copies alone, the leading ones first, and nothing that is removed.
+two_each : trimmed Both (codes "ab") (codes "abababcbabab") ≡ codes "cb"
+unfolding behind_copies without_trailing
+two_each = refl
+
+leading_first : trimmed Both (codes "aa") (codes "aaa") ≡ codes "a"
+unfolding behind_copies without_trailing
+leading_first = refl
+
+nothing_removed : trimmed Both [] (codes " bar ") ≡ codes " bar "
+unfolding without_trailing
+nothing_removed = refl

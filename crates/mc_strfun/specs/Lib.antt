@@ -3,3 +3,4 @@ pub mod Slices
 pub mod Joins
 pub mod Pads
 pub mod Replaced
+pub mod Trimmed

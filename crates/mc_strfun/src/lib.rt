@@ -8,7 +8,7 @@
 //! Read the modules in this order: `number` (numbers of characters), `part` (the slice that some
 //! characters of a text spell), `slices` (LEFT, RIGHT, SUBSTRING), `copies` (REPEAT), `joins`
 //! (CONCAT, CONCAT_WS), `pads` (LPAD, RPAD), `reversal` (REVERSE), `replacement` (REPLACE),
-//! `digits` (HEX), and `laws`, which other crates prove with.
+//! `trimming` (TRIM), `digits` (HEX), and `laws`, which other crates prove with.
 #![tactic(auto)]
 
 mod copies;
@@ -21,12 +21,14 @@ mod part;
 mod replacement;
 mod reversal;
 mod slices;
+mod trimming;
 
 pub use copies::repeat;
 pub use digits::hex;
 pub use joins::{concat, concat_ws};
-pub use laws::repeat_law;
+pub use laws::{repeat_law, trim_law};
 pub use pads::{lpad, rpad};
 pub use replacement::replace;
 pub use reversal::reverse;
 pub use slices::{left, right, substring};
+pub use trimming::{Side, trim};

@@ -82,7 +82,7 @@ fn replace_each(
 }
 
 /// Whether the text begins with these bytes.
-fn begins(text: &[u8], front: &[u8]) -> bool
+pub(crate) fn begins(text: &[u8], front: &[u8]) -> bool
     ensures { IsTrue result ↔ (take (length front.now) text.now ≡ front.now) }
 {
     text.starts_with(front)

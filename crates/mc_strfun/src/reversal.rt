@@ -20,8 +20,16 @@ pub fn reverse(alloc: Global, set: Charset, text: &Text) -> Result<Text, NoMemor
     requires { IsWellFormed set text.now }
     ensures { IfOk result (Spells set (reverse (chars set text.now))) }
 {
-    let mut bytes = Vec::from_slice(alloc, text.as_slice())?;
-    put_backwards(set, text.as_slice(), bytes.as_mut_slice());
+    backwards(alloc, set, text.as_slice())
+}
+
+/// The characters of a slice backwards.
+pub(crate) fn backwards(alloc: Global, set: Charset, text: &[u8]) -> Result<Text, NoMemory>
+    requires { IsWellFormed set text.now }
+    ensures { IfOk result (Spells set (reverse (chars set text.now))) }
+{
+    let mut bytes = Vec::from_slice(alloc, text)?;
+    put_backwards(set, text, bytes.as_mut_slice());
     Ok(Text::from_slice(alloc, bytes.as_slice())?)
 }
 
