@@ -1,4 +1,4 @@
--- A refused element table is refused by the outcome of its text, and kinds of a set are Unicode's.
+-- A refused element table is refused by the outcome of its text.
 use Rattle.std.proofs.Common.{◌≡◌, ℕ, List, Result, Err, ap, refl}
 use Rattle.std.specs.Result.{result_map_both}
 use Rattle.mc_allkeys.specs.KeysFile.{HasFault}
