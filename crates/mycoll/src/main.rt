@@ -35,6 +35,8 @@ mod status;
 #[cfg(test)]
 mod tests;
 mod unanswered;
+#[cfg(test)]
+mod unicode_tests;
 mod values;
 mod words;
 
