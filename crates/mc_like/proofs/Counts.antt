@@ -1,35 +1,38 @@
 -- How many literals items have.
-use Rattle.std.proofs.Common.{◌≡◌, ℕ, suc, true, ◌==◌, ◌+◌, ◌*◌, ◌≤◌, subst, ◌⊎◌, inl, inr, List, [], ◌∷◌, refl, min, arith}
+use Rattle.std.proofs.Common.{◌≡◌, ℕ, suc, true, false, ◌==◌, ◌+◌, ◌*◌, ◌≤◌, subst, ◌⊎◌, inl, inr}
+use Rattle.std.proofs.Common.{List, [], ◌∷◌, refl, min, arith}
 use Rattle.std.proofs.lemmas.Bool.Decides.{nat_tests}
-use Rattle.mc_like.specs.declared.item.Item.{Item}
-use Rattle.mc_like.specs.declared.item.Item.TheVariants.{Literal, One, Any}
+use Rattle.mc_like.specs.declared.item.PatternItem.{PatternItem}
+use Rattle.mc_like.specs.declared.item.PatternItem.TheVariants.{Literal, One, Any}
 use Rattle.mc_like.specs.Items.{literal_count}
 
 pub literal_count-none : literal_count [] ≡ 0
 unfolding literal_count
 literal_count-none = refl
 
-pub literal_count-literal : (code : ℕ) (items : List Item) →
+pub literal_count-literal : (code : ℕ) (items : List PatternItem) →
     literal_count (Literal code ∷ items) ≡ 1 + literal_count items
 unfolding literal_count
 literal_count-literal code items = refl
 
-pub literal_count-one : (items : List Item) → literal_count (One ∷ items) ≡ literal_count items
+pub literal_count-one : (items : List PatternItem) →
+    literal_count (One ∷ items) ≡ literal_count items
 unfolding literal_count
 literal_count-one items = refl
 
-pub literal_count-any : (items : List Item) → literal_count (Any ∷ items) ≡ literal_count items
+pub literal_count-any : (items : List PatternItem) →
+    literal_count (Any ∷ items) ≡ literal_count items
 unfolding literal_count
 literal_count-any items = refl
 
-pub literal_count-cons : (item : Item) (items : List Item) →
+pub literal_count-cons : (item : PatternItem) (items : List PatternItem) →
     literal_count (item ∷ items) ≡ literal_count (item ∷ []) + literal_count items
 unfolding literal_count
 literal_count-cons (Literal code) items = omega arith
 literal_count-cons One items = omega arith
 literal_count-cons Any items = omega arith
 
-pub no_literal : (item : Item) → (item ≡ One) ⊎ (item ≡ Any) → literal_count (item ∷ []) ≡ 0
+pub no_literal : (item : PatternItem) → (item ≡ One) ⊎ (item ≡ Any) → literal_count (item ∷ []) ≡ 0
 unfolding literal_count
 no_literal (Literal code) (inl e) = cc
 no_literal (Literal code) (inr e) = cc
@@ -53,6 +56,9 @@ at_most_misfit first old new all rest behind items most e t s h =
 
 pub is_zero : (n : ℕ) → true ≡ (n == 0) → n ≡ 0
 is_zero n e = grind (arith, nat_tests)
+
+pub is_some : (n : ℕ) → false ≡ (n == 0) → 1 ≤ n
+is_some n e = grind (arith, nat_tests)
 
 pub ruleset counts = (
   literal_count-none,

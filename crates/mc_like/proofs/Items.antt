@@ -1,12 +1,14 @@
 -- The reading of a pattern, character by character.
-use Rattle.std.proofs.Common.{◌≡◌, ℕ, Bool, true, false, IsTrue, if◌then◌else◌, List, [], ◌∷◌, ◌++◌, append_assoc, append-nil, length, Option, Some, None, refl, ap, ◌∙◌, sym, arith}
+use Rattle.std.proofs.Common.{◌≡◌, ℕ, Bool, true, false, IsTrue, if◌then◌else◌, List, [], ◌∷◌, ◌++◌}
+use Rattle.std.proofs.Common.{append_assoc, append-nil, length, Option, Some, None, refl, ap, ◌∙◌}
+use Rattle.std.proofs.Common.{sym, arith}
 use Rattle.std.specs.Option.{is_some}
 use Rattle.std.proofs.lemmas.List.Elements.{All-head, All-tail}
 use Rattle.mc_charset.specs.declared.charset.Charset.{Charset}
 use Rattle.mc_charset.specs.Chars.{spell, spell_all, chars}
 use Rattle.mc_order.specs.Meaning.{AreCharsOf, IsCharOf}
-use Rattle.mc_like.specs.declared.item.Item.{Item}
-use Rattle.mc_like.specs.declared.item.Item.TheVariants.{Literal, One, Any}
+use Rattle.mc_like.specs.declared.item.PatternItem.{PatternItem}
+use Rattle.mc_like.specs.declared.item.PatternItem.TheVariants.{Literal, One, Any}
 use Rattle.mc_like.specs.Items.{item_of, is_escape, items_of, literal_front}
 use Rattle.mc_like.specs.Pattern.{is_of_set, AreOfSet}
 use Rattle.mc_like.specs.Read.{HasFirst, ReadsItem}
@@ -16,7 +18,8 @@ unfolding items_of
 items_of-none escape = refl
 
 pub items_of-plain : (escape : Option ℕ) (code : ℕ) (codes : List ℕ) →
-    is_escape escape code ≡ false → items_of escape (code ∷ codes) ≡ item_of code ∷ items_of escape codes
+    is_escape escape code ≡ false →
+    items_of escape (code ∷ codes) ≡ item_of code ∷ items_of escape codes
 unfolding items_of
 items_of-plain escape code [] e =
     ap (λ b. (if b then Literal code else item_of code) ∷ []) e
@@ -93,7 +96,7 @@ unfolding spell_all
 front_of_set-cons set code (Some front) codes e h more = (front ++ more.0, rw (e, more.1) refl)
 front_of_set-cons set code None codes e h more = cc
 
-pub front_of_set : (set : Charset) (items : List Item) → AreOfSet set items →
+pub front_of_set : (set : Charset) (items : List PatternItem) → AreOfSet set items →
     AreCharsOf set (literal_front items)
 unfolding literal_front spell_all
 front_of_set set [] h = ([], refl)
@@ -108,12 +111,12 @@ pub literal_front-none : literal_front [] ≡ []
 unfolding literal_front
 literal_front-none = refl
 
-pub literal_front-literal : (code : ℕ) (items : List Item) →
+pub literal_front-literal : (code : ℕ) (items : List PatternItem) →
     literal_front (Literal code ∷ items) ≡ code ∷ literal_front items
 unfolding literal_front
 literal_front-literal code items = refl
 
-pub literal_front-other : (item : Item) (items : List Item) →
+pub literal_front-other : (item : PatternItem) (items : List PatternItem) →
     ((code : ℕ) → item ≡ Literal code → ⊥) → literal_front (item ∷ items) ≡ []
 unfolding literal_front
 literal_front-other (Literal code) items h = absurd (h code refl)
@@ -127,17 +130,17 @@ pub ruleset fronts = (
 )
 
 -- What stands for no items at the end of a loop.
-pub front_ends : (out all : List ℕ) (left : List Item) → out ++ literal_front left ≡ all →
+pub front_ends : (out all : List ℕ) (left : List PatternItem) → out ++ literal_front left ≡ all →
     literal_front left ≡ [] → out ≡ all
 front_ends out all left e none = sym (append-nil out) ∙ ap (λ t. out ++ t) (sym none) ∙ e
 
-pub front_goes_on : (out : List ℕ) (left : List Item) (code : ℕ) (more : List Item) →
+pub front_goes_on : (out : List ℕ) (left : List PatternItem) (code : ℕ) (more : List PatternItem) →
     left ≡ Literal code ∷ more →
     (out ++ code ∷ []) ++ literal_front more ≡ out ++ literal_front left
 front_goes_on out left code more e =
     append_assoc out (code ∷ []) (literal_front more)
     ∙ ap (λ t. out ++ t) (sym (ap literal_front e ∙ literal_front-literal code more))
 
-pub no_items : (left : List Item) → length left ≡ 0 → left ≡ []
+pub no_items : (left : List PatternItem) → length left ≡ 0 → left ≡ []
 no_items [] e = refl
 no_items (item ∷ left) e = absurd (omega arith)

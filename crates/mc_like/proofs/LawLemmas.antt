@@ -1,17 +1,20 @@
 -- What patterns and LIKE keep.
-use Rattle.std.proofs.Common.{◌≡◌, ◌≢◌, ◌↔◌, ℕ, zero, suc, ◌+◌, ◌-◌, ◌≤◌, true, false, List, [], ◌∷◌, ◌++◌, Some, None, length, take, drop, refl, sym, ap, ◌∙◌, subst, inl, inr, arith}
-use Rattle.std.specs.List.{flat_map}
+use Rattle.std.proofs.Common.{◌≡◌, ◌≢◌, ◌↔◌, ℕ, zero, suc, ◌+◌, ◌-◌, ◌≤◌, true, false, List, []}
+use Rattle.std.proofs.Common.{◌∷◌, ◌++◌, Some, None, length, take, drop, refl, sym, ap, ◌∙◌, subst}
+use Rattle.std.proofs.Common.{inl, inr, arith}
 use Rattle.std.proofs.lemmas.Bool.Decides.{nat_tests}
 use Rattle.std.proofs.lemmas.List.{drop-drop, drop-take, drop_all, length-take}
 use Rattle.std.proofs.lemmas.Bool.{cases_lt}
 use Rattle.std.proofs.lemmas.List.Elements.{All-head, All-tail}
 use Rattle.mc_order.specs.Meaning.{Meaning}
-use Rattle.mc_like.specs.declared.item.Item.{Item}
-use Rattle.mc_like.specs.declared.item.Item.TheVariants.{Literal, One, Any}
+use Rattle.mc_like.specs.declared.item.PatternItem.{PatternItem}
+use Rattle.mc_like.specs.declared.item.PatternItem.TheVariants.{Literal, One, Any}
 use Rattle.mc_like.specs.Items.{item_of, is_escape, literal_front}
-use Rattle.mc_like.specs.Laws.{EachIsItem, EachOtherIsItem, EscapedIsLiteral, LastEscapeIsLiteral, LiteralsMatchEach, JoinedMatchAtCut, BeginsLikeFront}
+use Rattle.mc_like.specs.Laws.{EachIsItem, EachOtherIsItem, EscapedIsLiteral, LastEscapeIsLiteral}
+use Rattle.mc_like.specs.Laws.{LiteralsMatchEach, JoinedMatchAtCut, BeginsLikeFront}
 use Rattle.mc_like.specs.Like.{Like}
-use Rattle.mc_like.proofs.Like.{IsSingle, Like-end, Like-end_left, Like-end_right, Like-single, Like-single_back, Like-any, Like-any_back}
+use Rattle.mc_like.proofs.Like.{IsSingle, Like-end, Like-end_left, Like-end_right, Like-single}
+use Rattle.mc_like.proofs.Like.{Like-single_back, Like-any, Like-any_back}
 use Rattle.mc_like.proofs.Items.{items_of-none, items_of-plain, items_of-escaped, items_of-last}
 
 pub each_is_item : EachIsItem
@@ -34,14 +37,23 @@ same_test : (escape : ℕ) → is_escape (Some escape) escape ≡ true
 same_test escape = grind (arith, nat_tests)
 
 pub escaped_is_literal : EscapedIsLiteral
-escaped_is_literal escape [] = items_of-none (Some escape)
-escaped_is_literal escape (code ∷ codes) =
-    items_of-escaped (Some escape) escape code (flat_map (λ c. escape ∷ c ∷ []) codes)
-    (same_test escape)
-    ∙ ap (λ t. Literal code ∷ t) (escaped_is_literal escape codes)
+escaped_is_literal escape next [] more other =
+    items_of-escaped (Some escape) escape next more (same_test escape)
+escaped_is_literal escape next (code ∷ codes) more other =
+    items_of-plain (Some escape) code (codes ++ escape ∷ next ∷ more)
+    (other_test code escape (All-head (λ c. c ≢ escape) code codes other))
+    ∙ ap (λ t. item_of code ∷ t)
+    (escaped_is_literal escape next codes more
+    (All-tail (λ c. c ≢ escape) code codes other))
 
 pub last_escape_is_literal : LastEscapeIsLiteral
-last_escape_is_literal escape = items_of-last (Some escape) escape (same_test escape)
+last_escape_is_literal escape [] other =
+    items_of-last (Some escape) escape (same_test escape)
+last_escape_is_literal escape (code ∷ codes) other =
+    items_of-plain (Some escape) code (codes ++ escape ∷ [])
+    (other_test code escape (All-head (λ c. c ≢ escape) code codes other))
+    ∙ ap (λ t. item_of code ∷ t)
+    (last_escape_is_literal escape codes (All-tail (λ c. c ≢ escape) code codes other))
 
 pub literals_match_each : (m : Meaning) → LiteralsMatchEach m
 unfolding Like
@@ -62,11 +74,11 @@ begins_like_front m (One ∷ items) codes h = tt
 begins_like_front m (Any ∷ items) codes h = tt
 
 -- What matches at a cut matches joined, and the other way, for these items.
-abbrev Cuts : Meaning → List Item → List Item → List ℕ → Type 0
+abbrev Cuts : Meaning → List PatternItem → List PatternItem → List ℕ → Type 0
 Cuts m items more codes =
     (cut : ℕ) × Like m items (take cut codes) × Like m more (drop cut codes)
 
-any_cut : (m : Meaning) (items more : List Item) (codes : List ℕ) (k : ℕ) →
+any_cut : (m : Meaning) (items more : List PatternItem) (codes : List ℕ) (k : ℕ) →
     Cuts m items more (drop k codes) → Cuts m (Any ∷ items) more codes
 unfolding Like
 any_cut m items more codes k h = (
@@ -75,7 +87,7 @@ any_cut m items more codes k h = (
   subst (Like m more) (drop-drop h.0 k codes) h.2,
 )
 
-behind_cut : (m : Meaning) (items more : List Item) (codes : List ℕ) (k cut : ℕ) → k ≤ cut →
+behind_cut : (m : Meaning) (items more : List PatternItem) (codes : List ℕ) (k cut : ℕ) → k ≤ cut →
     Like m items (drop k (take cut codes)) → Like m more (drop cut codes) →
     Cuts m items more (drop k codes)
 behind_cut m items more codes k cut within h n =
@@ -86,7 +98,7 @@ behind_cut m items more codes k cut within h n =
       subst (Like m more) (sym (drop-drop (cut - k) k codes ∙ ap (λ c. drop c codes) e)) n,
     )
 
-before_cut : (m : Meaning) (items more : List Item) (codes : List ℕ) (k cut : ℕ) → cut ≤ k →
+before_cut : (m : Meaning) (items more : List PatternItem) (codes : List ℕ) (k cut : ℕ) → cut ≤ k →
     Like m items (drop k (take cut codes)) → Like m more (drop cut codes) →
     Cuts m items more (drop cut codes)
 before_cut m items more codes k cut within h n =
@@ -94,7 +106,7 @@ before_cut m items more codes k cut within h n =
     (zero, subst (Like m items) (drop_all k (take cut codes) short) h, n)
 
 -- A cut that lies behind what the `%` passes over, or before its end.
-any_join : (m : Meaning) (items more : List Item) (codes : List ℕ) (k cut : ℕ) →
+any_join : (m : Meaning) (items more : List PatternItem) (codes : List ℕ) (k cut : ℕ) →
     Like m items (drop k (take cut codes)) → Like m more (drop cut codes) →
     (j : ℕ) × Cuts m items more (drop j codes)
 any_join m items more codes k cut h n =
@@ -103,23 +115,23 @@ any_join m items more codes k cut h n =
       | inr within ↦ (cut, before_cut m items more codes k cut within h n)
     ]
 
-nil_join : (m : Meaning) (more : List Item) (cut : ℕ) (codes : List ℕ) →
+nil_join : (m : Meaning) (more : List PatternItem) (cut : ℕ) (codes : List ℕ) →
     Like m [] (take cut codes) → Like m more (drop cut codes) → Like m more codes
 nil_join m more zero codes h n = n
 nil_join m more (suc cut) [] h n = n
 nil_join m more (suc cut) (code ∷ codes) h n =
     absurd (Like-end_left m code (take cut codes) h)
 
-end_cut : (m : Meaning) (item : Item) (items : List Item) (cut : ℕ) → IsSingle item →
+end_cut : (m : Meaning) (item : PatternItem) (items : List PatternItem) (cut : ℕ) → IsSingle item →
     Like m (item ∷ items) (take cut []) → ⊥
 end_cut m item items zero single h = Like-end_right m item items single h
 end_cut m item items (suc cut) single h = Like-end_right m item items single h
 
 -- The law for the items behind the first.
-abbrev Joins : Meaning → List Item → List Item → Type 0
+abbrev Joins : Meaning → List PatternItem → List PatternItem → Type 0
 Joins m items more = (codes : List ℕ) → Like m (items ++ more) codes ↔ Cuts m items more codes
 
-single_join : (m : Meaning) (item : Item) (items more : List Item) (code : ℕ)
+single_join : (m : Meaning) (item : PatternItem) (items more : List PatternItem) (code : ℕ)
     (codes : List ℕ) → IsSingle item → Joins m items more → (cut : ℕ) →
     Like m (item ∷ items) (take cut (code ∷ codes)) → Like m more (drop cut (code ∷ codes)) →
     Like m (item ∷ (items ++ more)) (code ∷ codes)
@@ -130,7 +142,8 @@ single_join m item items more code codes single joins (suc cut) h n =
     Like-single_back m item (items ++ more) code codes single parts.0
     ((joins codes).1 (cut, parts.1, n))
 
-joined_single : (m : Meaning) (item : Item) (items more : List Item) (codes : List ℕ) →
+joined_single : (m : Meaning) (item : PatternItem) (items more : List PatternItem)
+    (codes : List ℕ) →
     IsSingle item → Joins m items more →
     Like m (item ∷ (items ++ more)) codes ↔ Cuts m (item ∷ items) more codes
 joined_single m item items more [] single joins = (
@@ -147,7 +160,7 @@ joined_single m item items more (code ∷ codes) single joins = (
   λ h. single_join m item items more code codes single joins h.0 h.1 h.2,
 )
 
-joined_any : (m : Meaning) (items more : List Item) (codes : List ℕ) → Joins m items more →
+joined_any : (m : Meaning) (items more : List PatternItem) (codes : List ℕ) → Joins m items more →
     Like m (Any ∷ (items ++ more)) codes ↔ Cuts m (Any ∷ items) more codes
 joined_any m items more codes joins = (
   λ h. let some = Like-any m (items ++ more) codes h in

@@ -3,4 +3,4 @@ pub mod Pattern
 pub mod Like
 pub mod Laws
 pub mod Read
-pub mod Fits
+pub mod Fronts

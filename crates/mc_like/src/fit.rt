@@ -1,12 +1,13 @@
 ghost use Rattle.mc_charset.specs.Chars.{chars};
-ghost use Rattle.mc_like.specs.Fits.{IsFit, Takes, Ticks, LeavesOfSet, last_count};
+ghost use Rattle.mc_like.specs.Fronts.{has_any, IsFit, Takes, Ticks, LeavesOfSet, last_count};
 ghost use Rattle.mc_like.specs.Items.{literal_count};
 ghost use Rattle.mc_like.specs.Pattern.{AreOfSet, is_of_set};
 ghost use Rattle.mc_like.specs.Read.{HasFirst};
 ghost use Rattle.mc_order.specs.Meaning.{IsCharOf};
-ghost use Rattle.std.specs.Prelude.{◌≡◌, ◌↔◌, ◌+◌, ◌≤◌, ◌∷◌, [], IsTrue, MatchOption, min};
+ghost use Rattle.std.specs.Prelude.{◌≡◌, ◌↔◌, ◌+◌, ◌≤◌, ◌∷◌, []};
+ghost use Rattle.std.specs.Prelude.{IsTrue, MatchOption, min};
 
-use crate::Item;
+use crate::PatternItem;
 use mc_base::Steps;
 use mc_charset::{CharAt, Encoding, next_in};
 use mc_order::Collation;
@@ -21,13 +22,16 @@ pub(crate) enum Fit<'a> {
     /// To the end of both.
     Whole,
     /// To a `%`: the items behind it, and the text that is left.
-    Gap { items: &'a [Item], rest: &'a [u8] },
+    Gap {
+        items: &'a [PatternItem],
+        rest: &'a [u8],
+    },
 }
 
 /// Goes over the items before the first `%`, one character each.
 pub(crate) fn fit_front<'a, C: Collation, E: Encoding, W>(
     collation: &C,
-    items: &'a [Item],
+    items: &'a [PatternItem],
     text: &'a [u8],
     work: &mut Steps<W>,
 ) -> Fit<'a>
@@ -40,13 +44,13 @@ pub(crate) fn fit_front<'a, C: Collation, E: Encoding, W>(
     let mut left = items;
     let mut rest = text;
     while let Some((item, more)) = left.split_first() {
-        if let Item::Any = item {
+        if let PatternItem::Any = item {
             return Fit::Gap { items: more, rest };
         }
         let Some((code, behind)) = first_in::<E>(rest) else {
             return Fit::Short;
         };
-        if !is_like(collation, *item, code, work) {
+        if !is_taken(collation, *item, code, work) {
             return Fit::Misfit;
         }
         left = more;
@@ -56,6 +60,20 @@ pub(crate) fn fit_front<'a, C: Collation, E: Encoding, W>(
         Some(_) => Fit::Misfit,
         None => Fit::Whole,
     }
+}
+
+/// Whether one of the items is `%`.
+pub(crate) fn has_any(items: &[PatternItem]) -> bool
+    ensures { result ≡ has_any items.now }
+{
+    let mut left = items;
+    while let Some((item, more)) = left.split_first() {
+        if let PatternItem::Any = item {
+            return true;
+        }
+        left = more;
+    }
+    false
 }
 
 /// The first character of a text, and the text behind it.
@@ -72,7 +90,12 @@ pub(crate) fn first_in<E: Encoding>(text: &[u8]) -> Option<(u32, &[u8])>
 
 /// Whether an item that is not `%` takes the character. Where they are compared, that is a tick.
 #[tactic(auto, using(crate::proofs::Counts::counts))]
-fn is_like<C: Collation, W>(collation: &C, item: Item, code: u32, work: &mut Steps<W>) -> bool
+fn is_taken<C: Collation, W>(
+    collation: &C,
+    item: PatternItem,
+    code: u32,
+    work: &mut Steps<W>,
+) -> bool
     requires of_set { IsTrue (is_of_set (C.meaning collation.now).charset item) }
     requires is_char { IsCharOf (C.meaning collation.now).charset code }
     ensures takes { IsTrue result ↔ Takes (C.meaning collation.now) item code }
@@ -80,10 +103,10 @@ fn is_like<C: Collation, W>(collation: &C, item: Item, code: u32, work: &mut Ste
     ensures at_least { min (work.old + literal_count (item ∷ [])) last_count ≤ work.new }
 {
     match item {
-        Item::Literal(literal) => {
+        PatternItem::Literal(literal) => {
             work.tick();
             literal == code || collation.same_char(literal, code)
         }
-        Item::One | Item::Any => true,
+        PatternItem::One | PatternItem::Any => true,
     }
 }

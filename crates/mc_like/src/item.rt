@@ -1,6 +1,6 @@
 /// What a pattern has at one place.
 #[derive(Clone, Copy, Debug, Drop)]
-pub enum Item {
+pub enum PatternItem {
     /// A character that stands for itself: its code point.
     Literal(u32),
     /// `_`: one character, whichever it is.

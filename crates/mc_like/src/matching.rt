@@ -1,12 +1,14 @@
 ghost use Rattle.mc_charset.specs.Chars.{chars};
-ghost use Rattle.mc_like.specs.Fits.{last_count};
+ghost use Rattle.mc_like.specs.Fronts.{last_count};
 ghost use Rattle.mc_like.specs.Items.{literal_count};
 ghost use Rattle.mc_like.specs.Like.{Like};
 ghost use Rattle.mc_like.specs.Pattern.{AreOfSet};
-ghost use Rattle.std.specs.Prelude.{◌≡◌, ◌↔◌, ◌+◌, ◌*◌, ◌≤◌, ◌∷◌, IsTrue, length, min};
+ghost use Rattle.std.specs.Prelude.{◌≡◌, ◌↔◌, ◌+◌, ◌*◌, ◌≤◌, ◌∷◌};
+ghost use Rattle.std.specs.Prelude.{IsTrue, length, min};
 
-use crate::Item;
-use crate::fit::{Fit, first_in, fit_front};
+use crate::PatternItem;
+use crate::ends::ends_like;
+use crate::fit::{Fit, first_in, fit_front, has_any};
 use mc_base::Steps;
 use mc_charset::{Ascii, Binary, Charset, Encoding, Latin1, Ucs2, Utf8mb3, Utf8mb4, Utf16, Utf32};
 use mc_order::Collation;
@@ -16,13 +18,14 @@ use mc_order::Collation;
 pub(crate) fn is_match_in<C: Collation, W>(
     set: Charset,
     collation: &C,
-    items: &[Item],
+    items: &[PatternItem],
     text: &[u8],
     work: &mut Steps<W>,
 ) -> bool
     requires same_set { set ≡ (C.meaning collation.now).charset }
     requires of_set { AreOfSet set items.now }
-    ensures exact { IsTrue result ↔ Like (C.meaning collation.now) items.now (chars set text.now) }
+    ensures exact { let codes = chars set text.now in
+        IsTrue result ↔ Like (C.meaning collation.now) items.now codes }
     ensures at_most { let n = length (chars set text.now) in let m = length items.now in
         work.new ≤ work.old + (n + 1) * (m + 1) }
     ensures each_literal { IsTrue result →
@@ -43,13 +46,14 @@ pub(crate) fn is_match_in<C: Collation, W>(
 /// Whether a text matches the items.
 fn is_match<C: Collation, E: Encoding, W>(
     collation: &C,
-    items: &[Item],
+    items: &[PatternItem],
     text: &[u8],
     work: &mut Steps<W>,
 ) -> bool
     requires same_set { E.set ≡ (C.meaning collation.now).charset }
     requires of_set { AreOfSet E.set items.now }
-    ensures exact { IsTrue result ↔ Like (C.meaning collation.now) items.now (chars E.set text.now) }
+    ensures exact { let codes = chars E.set text.now in
+        IsTrue result ↔ Like (C.meaning collation.now) items.now codes }
     ensures at_most { let n = length (chars E.set text.now) in let m = length items.now in
         work.new ≤ work.old + (n + 1) * (m + 1) }
     ensures each_literal { IsTrue result →
@@ -68,14 +72,14 @@ fn is_match<C: Collation, E: Encoding, W>(
 // may pass over what another one would have left out.
 fn is_match_behind<C: Collation, E: Encoding, W>(
     collation: &C,
-    items: &[Item],
+    items: &[PatternItem],
     text: &[u8],
     work: &mut Steps<W>,
 ) -> bool
     requires same_set { E.set ≡ (C.meaning collation.now).charset }
     requires of_set { AreOfSet E.set items.now }
     ensures exact { IsTrue result ↔
-        Like (C.meaning collation.now) (Item.Any ∷ items.now) (chars E.set text.now) }
+        Like (C.meaning collation.now) (PatternItem.Any ∷ items.now) (chars E.set text.now) }
     ensures at_most { let n = length (chars E.set text.now) in let m = length items.now in
         work.new ≤ work.old + n * (m + 1) + m }
     ensures each_literal { IsTrue result →
@@ -83,7 +87,8 @@ fn is_match_behind<C: Collation, E: Encoding, W>(
 {
     let mut items = items;
     let mut rest = text;
-    while !items.is_empty() {
+    let mut gaps = has_any(items);
+    while gaps {
         match fit_front::<C, E, W>(collation, items, rest, work) {
             Fit::Whole => return true,
             Fit::Short => return false,
@@ -93,6 +98,7 @@ fn is_match_behind<C: Collation, E: Encoding, W>(
             } => {
                 items = more;
                 rest = behind;
+                gaps = has_any(items);
             }
             Fit::Misfit => {
                 let Some((_, behind)) = first_in::<E>(rest) else {
@@ -102,5 +108,5 @@ fn is_match_behind<C: Collation, E: Encoding, W>(
             }
         }
     }
-    true
+    ends_like::<C, E, W>(collation, items, rest, work)
 }

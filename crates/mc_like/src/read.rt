@@ -4,7 +4,7 @@ ghost use Rattle.mc_like.specs.Pattern.{AreOfSet};
 ghost use Rattle.mc_like.specs.Read.{HasFirst, ReadsItem};
 ghost use Rattle.std.specs.Prelude.{◌≡◌, ◌++◌, [], MatchOption, IfOk};
 
-use crate::Item;
+use crate::PatternItem;
 use mc_base::{List, NoMemory};
 use mc_charset::{CharAt, Charset, next_char};
 
@@ -13,13 +13,14 @@ pub(crate) fn put_items(
     set: Charset,
     escape: Option<u32>,
     text: &[u8],
-    items: &mut List<Item>,
+    items: &mut List<PatternItem>,
 ) -> Result<(), NoMemory>
     requires { AreOfSet set items.old }
     ensures all { IfOk result
         (λ _. items.new ≡ items.old ++ items_of escape (chars set text.now)) }
     ensures of_set { AreOfSet set items.new }
 {
+    items.reserve(text.len())?;
     let mut rest = text;
     while let Some((item, behind)) = next_item(set, escape, rest) {
         items.push(item)?;
@@ -29,7 +30,7 @@ pub(crate) fn put_items(
 }
 
 /// The first item of a pattern's text, and the text behind it.
-fn next_item(set: Charset, escape: Option<u32>, text: &[u8]) -> Option<(Item, &[u8])>
+fn next_item(set: Charset, escape: Option<u32>, text: &[u8]) -> Option<(PatternItem, &[u8])>
     ensures { MatchOption result (items_of escape (chars set text.now) ≡ [])
         (λ read. ReadsItem set escape text.now read.1.now read.0) }
 {
@@ -40,8 +41,8 @@ fn next_item(set: Charset, escape: Option<u32>, text: &[u8]) -> Option<(Item, &[
         return Some((item_of(code), rest));
     }
     match next_code(set, rest) {
-        Some((literal, behind)) => Some((Item::Literal(literal), behind)),
-        None => Some((Item::Literal(code), rest)),
+        Some((literal, behind)) => Some((PatternItem::Literal(literal), behind)),
+        None => Some((PatternItem::Literal(code), rest)),
     }
 }
 
@@ -67,14 +68,14 @@ fn is_escape(escape: Option<u32>, code: u32) -> bool
 }
 
 /// What a character that is not escaped stands for.
-fn item_of(code: u32) -> Item
+fn item_of(code: u32) -> PatternItem
     ensures { result ≡ item_of code }
 {
     const PERCENT_SIGN: u32 = 0x25;
     const LOW_LINE: u32 = 0x5F;
     match code {
-        PERCENT_SIGN => Item::Any,
-        LOW_LINE => Item::One,
-        _ => Item::Literal(code),
+        PERCENT_SIGN => PatternItem::Any,
+        LOW_LINE => PatternItem::One,
+        _ => PatternItem::Literal(code),
     }
 }

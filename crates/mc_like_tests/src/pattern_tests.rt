@@ -132,11 +132,38 @@ fn letters(alloc: Global, count: usize) -> Result<Text, NoMemory> {
     Ok(text)
 }
 
+/// A pattern, and how many ticks it takes to find that 4,096 letters `a` do not match it.
+#[derive(Drop)]
+struct Count {
+    why: &'static str,
+    pattern: &'static [u8],
+    ticks: u64,
+}
+
+const COUNTS: [Count; 2] = [
+    Count {
+        why: "one for each a, and 4,092 for the places where b may stand",
+        pattern: b"%a%a%a%a%b%",
+        ticks: 4096,
+    },
+    Count {
+        why: "one for each a, and one for the last place",
+        pattern: b"%a%a%a%a%b",
+        ticks: 5,
+    },
+];
+
 #[test]
-fn four_gaps_take_no_more_ticks_than_places(rt: HostRuntime) {
+fn gaps_take_no_more_ticks_than_places(rt: HostRuntime) {
     if let Ok(text) = letters(rt.alloc(), 4096) {
-        let found = answer(rt.alloc(), text.as_slice(), b"%a%a%a%a%b", BACKSLASH);
-        assert!(rt; matches!(found, Ok(Some((false, ticks))) if ticks <= 45067));
+        for count in &COUNTS {
+            let found = answer(rt.alloc(), text.as_slice(), count.pattern, BACKSLASH);
+            assert!(rt;
+                matches!(found, Ok(Some((false, ticks))) if ticks == count.ticks),
+                "{}",
+                count.why
+            );
+        }
     } else {
         assert!(rt; false, "ample memory");
     }
@@ -146,6 +173,7 @@ fn four_gaps_take_no_more_ticks_than_places(rt: HostRuntime) {
 fn the_prefix_ends_before_a_gap(rt: HostRuntime) {
     let text = b"M\xC3\xBC_l%";
     if !is_well_formed(Charset::Utf8mb4, text) {
+        assert!(rt; false, "a pattern in UTF-8");
         return;
     }
     if let Ok(pattern) = compile(rt.alloc(), Charset::Utf8mb4, text, BACKSLASH) {

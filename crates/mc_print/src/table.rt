@@ -8,6 +8,7 @@ ghost use Rattle.std.specs.Prelude.{◌≡◌, ◌++◌, All, IfOk, OnOk};
 use crate::cell::push_cell;
 use crate::escape::push_escaped;
 use mc_base::{NoMemory, Text};
+use mc_charset::Charset;
 use mc_values::{Answer, Row, Value};
 use std::alloc::Global;
 
@@ -52,11 +53,21 @@ fn row_room(row: &[Value]) -> usize {
     let mut room: usize = 0;
     for value in row {
         room = room.saturating_add(CELL_ROOM);
-        if let Value::Str { text, .. } = value {
-            room = room.saturating_add(text.len());
+        if let Value::Str { charset, text } = value {
+            room = room.saturating_add(text_room(*charset, text.len()));
         }
     }
     room
+}
+
+/// About how many bytes a string of so many bytes needs: those of binary are written as `0x` and two
+/// digits for each.
+fn text_room(set: Charset, len: usize) -> usize {
+    if set == Charset::Binary {
+        len.saturating_mul(2).saturating_add(2)
+    } else {
+        len
+    }
 }
 
 /// Appends headers, a TAB between two.

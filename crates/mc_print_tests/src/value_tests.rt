@@ -1,7 +1,8 @@
 use mc_base::{NoMemory, Text};
 use mc_charset::{Charset, is_well_formed};
 use mc_values::{
-    GREATEST_STRING, Value, convert_value, copy_value, int_text, push_hex, within_limit,
+    GREATEST_STRING, Value, ascii_text, convert_value, copy_value, int_text, is_within_limit,
+    push_hex, push_hex_number, within_limit,
 };
 use std::alloc::Global;
 
@@ -23,6 +24,23 @@ fn numbers(rt: HostRuntime) {
     assert!(rt; utf16.unwrap_or(false), "two bytes a character");
     let utf32 = is_spelled(rt.alloc(), 0, Charset::Utf32, b"\x00\x00\x000");
     assert!(rt; utf32.unwrap_or(false), "four bytes a character");
+}
+
+/// Whether `ab` in ucs2 has two bytes a character.
+fn is_wide(alloc: Global) -> Result<bool, NoMemory> {
+    let text = b"ab";
+    if !text.is_ascii() {
+        return Ok(false);
+    }
+    Ok(ascii_text(alloc, Charset::Ucs2, text)?.as_slice() == b"\x00a\x00b".as_slice())
+}
+
+#[test]
+fn ascii(rt: HostRuntime) {
+    assert!(rt;
+        is_wide(rt.alloc()).unwrap_or(false),
+        "an ASCII text in ucs2"
+    );
 }
 
 /// Whether CONVERT makes this of the bytes; NULL stands as no bytes.
@@ -73,10 +91,11 @@ fn is_copied(alloc: Global) -> Result<bool, NoMemory> {
     }
 }
 
-/// The digits of these bytes, behind a letter.
+/// The digits of these bytes and of a number, behind a letter.
 fn digits(alloc: Global) -> Result<Text, NoMemory> {
     let mut text = Text::from_slice(alloc, b"x")?;
     push_hex(&mut text, b"\x0F\xA0\x9B")?;
+    push_hex_number(alloc, &mut text, -2)?;
     Ok(text)
 }
 
@@ -84,8 +103,10 @@ fn digits(alloc: Global) -> Result<Text, NoMemory> {
 fn copies_digits_and_lengths(rt: HostRuntime) {
     assert!(rt; is_copied(rt.alloc()).unwrap_or(false), "a copy");
     let text = digits(rt.alloc()).unwrap_or(Text::new(rt.alloc()));
-    let wanted: &[u8] = b"x0FA09B";
+    let wanted: &[u8] = b"x0FA09BFFFFFFFFFFFFFFFE";
     assert!(rt; text.as_slice() == wanted, "digits");
     assert!(rt; within_limit(text).is_some(), "a short text");
     assert!(rt; GREATEST_STRING == 1_048_576, "the greatest length");
+    assert!(rt; is_within_limit(GREATEST_STRING), "a string may have it");
+    assert!(rt; !is_within_limit(GREATEST_STRING + 1), "and no more");
 }

@@ -3,6 +3,7 @@ pub mod CodeLemmas
 pub mod Places
 pub mod PieceFacts
 pub mod TailSteps
+pub mod TailPlaces
 pub mod Filters
 pub mod Fronts
 pub mod SetLaw

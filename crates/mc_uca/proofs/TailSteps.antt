@@ -1,10 +1,10 @@
 -- The tails of one contraction more, prefix by prefix.
-use Rattle.std.proofs.Common.{◌≡◌, ℕ, zero, suc, ◌+◌, ◌<◌, ◌≤◌, List, [], ◌∷◌, ◌++◌, length, map, filter, take, drop, slice_index_or, append_assoc, take_all, refl, sym, ap, ◌∙◌, arith}
+use Rattle.std.proofs.Common.{◌≡◌, ℕ, zero, suc, ◌+◌, ◌<◌, List, [], ◌∷◌, ◌++◌, length, map, filter, take, drop, refl, sym, ap, ◌∙◌, arith}
 use Rattle.std.specs.List.{flat_map}
 use Rattle.std.specs.declared.cmp.Ordering.{Ordering}
 use Rattle.std.specs.declared.cmp.Ordering.TheVariants.{Less, Equal, Greater}
 use Rattle.std.specs.Ordering.{match_ordering}
-use Rattle.std.proofs.lemmas.List.{map-append, take_more, take-append-drop}
+use Rattle.std.proofs.lemmas.List.{map-append}
 use Rattle.std.proofs.lemmas.List.Elements.{filter-append}
 use Rattle.mc_order.specs.Order.{list_order}
 use Rattle.mc_order.specs.Tails.{insert_list, ascending, fronts, proper_prefixes, has_members, tails_of}
@@ -105,12 +105,6 @@ prefix_more first text n m lists new old is lt h put =
     ∙ sym (with_cons first (take n text) (drop (suc n) (fronts text)) old (first (take n text)) refl)
     ∙ ap (λ prefixes. tails_with first prefixes old) (sym (drop_fronts text n lt))
 
-drop_all : (n : ℕ) (xs : List (List ℕ)) → length xs ≤ n → drop n xs ≡ []
-drop_all zero [] le = refl
-drop_all (suc n) [] le = refl
-drop_all zero (x ∷ xs) le = absurd (omega arith)
-drop_all (suc n) (x ∷ xs) le = drop_all n xs (omega arith)
-
 -- Where a list has to stand among ascending ones.
 insert_at : (list other : List ℕ) (others : List (List ℕ)) (o : Ordering) →
     list_order NoPad 0 list other ≡ o → insert_list list (other ∷ others)
@@ -137,57 +131,6 @@ pub insert-behind : (list other : List ℕ) (others : List (List ℕ)) →
     list_order NoPad 0 list other ≡ Greater →
     insert_list list (other ∷ others) ≡ other ∷ insert_list list others
 insert-behind list other others e = insert_at list other others Greater e
-
-here : (old : List (List ℕ)) (n : ℕ) (y : List ℕ) → n < length old → y ≡ slice_index_or old n y →
-    drop n old ≡ y ∷ drop (n + 1) old
-here [] n y lt e = absurd (omega arith)
-here (x ∷ xs) zero y lt e = ap (λ z. z ∷ xs) (sym e)
-here (x ∷ xs) (suc n) y lt e =
-    let more : suc n + 1 ≡ suc (n + 1) = omega arith in
-    here xs n y (omega arith) e ∙ ap (λ k. y ∷ drop k (x ∷ xs)) (sym more)
-
-taken : (old : List (List ℕ)) (n : ℕ) (y : List ℕ) → n < length old → y ≡ slice_index_or old n y →
-    take (n + 1) old ≡ take n old ++ y ∷ []
-taken old n y lt e = take_more old n y lt ∙ ap (λ z. take n old ++ z ∷ []) (sym e)
-
-pub placed_before : (list y : List ℕ) (old new : List (List ℕ)) (n : ℕ) → n < length old →
-    y ≡ slice_index_or old n y → list_order NoPad 0 list y ≡ Less →
-    insert_list list old ≡ take n old ++ insert_list list (drop n old) →
-    new ≡ take n old ++ list ∷ drop n old → new ≡ insert_list list old
-placed_before list y old new n lt is e h put =
-    let at = here old n y lt is in
-    put ∙ ap (λ rest. take n old ++ list ∷ rest) at
-    ∙ ap (λ rest. take n old ++ rest) (sym (insert-before list y (drop (n + 1) old) e))
-    ∙ ap (λ rest. take n old ++ insert_list list rest) (sym at) ∙ sym h
-
-pub placed_same : (list y : List ℕ) (old : List (List ℕ)) (n : ℕ) → n < length old →
-    y ≡ slice_index_or old n y → list_order NoPad 0 list y ≡ Equal →
-    insert_list list old ≡ take n old ++ insert_list list (drop n old) → old ≡ insert_list list old
-placed_same list y old n lt is e h =
-    let at = here old n y lt is in
-    sym (take-append-drop n old) ∙ ap (λ rest. take n old ++ rest) at
-    ∙ ap (λ rest. take n old ++ rest) (sym (insert-same list y (drop (n + 1) old) e))
-    ∙ ap (λ rest. take n old ++ insert_list list rest) (sym at) ∙ sym h
-
-pub placed_behind : (list y : List ℕ) (old : List (List ℕ)) (n : ℕ) → n < length old →
-    y ≡ slice_index_or old n y → list_order NoPad 0 list y ≡ Greater →
-    insert_list list old ≡ take n old ++ insert_list list (drop n old) →
-    insert_list list old ≡ take (n + 1) old ++ insert_list list (drop (n + 1) old)
-placed_behind list y old n lt is e h =
-    let at = here old n y lt is in
-    let more = drop (n + 1) old in
-    h ∙ ap (λ rest. take n old ++ insert_list list rest) at
-    ∙ ap (λ rest. take n old ++ rest) (insert-behind list y more e)
-    ∙ sym (append_assoc (take n old) (y ∷ []) (insert_list list more))
-    ∙ ap (λ front. front ++ insert_list list more) (sym (taken old n y lt is))
-
-pub placed_last : (list : List ℕ) (old new : List (List ℕ)) (n : ℕ) → length old ≤ n →
-    insert_list list old ≡ take n old ++ insert_list list (drop n old) → new ≡ old ++ list ∷ [] →
-    new ≡ insert_list list old
-placed_last list old new n le h put =
-    put ∙ ap (λ front. front ++ list ∷ []) (sym (take_all n old le))
-    ∙ ap (λ rest. take n old ++ rest) (sym (insert-end list))
-    ∙ ap (λ rest. take n old ++ insert_list list rest) (sym (drop_all n old le)) ∙ sym h
 
 -- One contraction more, counted down.
 pub more_tails : (first : List ℕ → List ℕ) (text : List ℕ) (texts all : List (List ℕ))

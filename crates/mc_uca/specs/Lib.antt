@@ -8,3 +8,4 @@ pub mod Inner
 pub mod Streams
 pub mod Inserts
 pub mod Fault
+pub mod Collated

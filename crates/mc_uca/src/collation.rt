@@ -4,7 +4,6 @@ ghost use Rattle.mc_order.specs.Floor.{weighs};
 ghost use Rattle.mc_order.specs.Tails.{tails_of};
 ghost use Rattle.mc_uca.specs.Fault.{HasUcaFault};
 ghost use Rattle.mc_uca.specs.Kind.{levels_of, pad_of};
-ghost use Rattle.mc_uca.specs.UcaLaws.{uca_lawful};
 ghost use Rattle.mc_uca.specs.UcaMeaning.{space_by, space_fits, uca_meaning};
 ghost use Rattle.mc_uca.specs.Weighing.{set_contractions, uca_list};
 ghost use Rattle.std.specs.Prelude.{◌≡◌, ◌≤◌, ◌<◌, ◌^◌, ◌∷◌, [], length, IsTrue, MatchResult};
@@ -77,7 +76,9 @@ impl UcaCollation {
 }
 
 impl Collation for UcaCollation {
-    ghost meaning = { λ uca. uca_meaning uca.weigher.charset uca.weigher.kind uca.weigher.keys };
+    ghost use Rattle.mc_uca.specs.Collated.{lawful_of, meaning_of};
+
+    ghost meaning = { meaning_of };
 
     fn charset(&self) -> Charset {
         self.weigher.charset
@@ -138,6 +139,5 @@ impl Collation for UcaCollation {
         self.weigher.put_list(text, first, out)
     }
 
-    ghost lawful = { λ uca. uca_lawful uca.weigher.charset uca.weigher.kind uca.weigher.keys
-        uca.weigher.some_level uca.weigher.few_levels uca.sound uca.fits };
+    ghost lawful = { lawful_of };
 }

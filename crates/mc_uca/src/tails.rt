@@ -1,15 +1,15 @@
 ghost use Rattle.mc_allkeys.specs.Table.{contractions_of};
 ghost use Rattle.mc_order.specs.Tails.{fronts, insert_list, proper_prefixes, tails_of};
-ghost use Rattle.mc_uca.specs.Inserts.{tails_with};
+ghost use Rattle.mc_uca.specs.Inserts.{tails_with, AreAscending, IsPlace};
 ghost use Rattle.mc_uca.specs.Weighing.{is_of_set, set_contractions, uca_list};
-ghost use Rattle.std.specs.Prelude.{◌≡◌, ◌≤◌, ◌<◌, ◌+◌, ℕ, ◌∷◌, [], true, drop, filter, length};
-ghost use Rattle.std.specs.Prelude.{IfOk, OnOk};
+ghost use Rattle.std.specs.Prelude.{◌≡◌, ◌≤◌, ◌<◌, ◌+◌, ℕ, ◌∷◌, true};
+ghost use Rattle.std.specs.Prelude.{[], drop, filter, length, IfOk, OnOk, MatchOption};
 
 use crate::weigher::Weigher;
 use mc_allkeys::longest_law;
 use mc_base::{NoMemory, Weights};
 use mc_charset::{Charset, has_char};
-use mc_order::{Pad, compare_lists};
+use mc_order::{Pad, compare_lists, order_laws};
 use std::alloc::Global;
 use std::cmp::Ordering;
 
@@ -23,7 +23,7 @@ pub(crate) fn is_of_set(charset: Charset, codes: &[u32]) -> bool
 impl Weigher {
     /// The tails of the set's contractions: the first lists of their proper prefixes, in
     /// lexicographic order, each once.
-    // From the last contraction to the first one, so that a list stands near the front.
+    // From the last contraction to the first one, as `tails_of` puts them in.
     pub(crate) fn tails(&self, alloc: Global) -> Result<Vec<Weights>, NoMemory>
         ensures { IfOk result (λ tails. tails.items
             ≡ tails_of (uca_list self.now.charset self.now.kind self.now.keys 1)
@@ -45,7 +45,8 @@ impl Weigher {
         place: u32,
         tails: &mut Vec<Weights>,
     ) -> Result<(), NoMemory>
-        requires { place < length (contractions_of self.now.keys.entries) }
+        requires within { place < length (contractions_of self.now.keys.entries) }
+        requires ascending { AreAscending tails.old.items }
         ensures { let from = λ (k : ℕ).
             tails_of (uca_list self.now.charset self.now.kind self.now.keys 1)
             (filter (is_of_set self.now.charset)
@@ -70,6 +71,7 @@ impl Weigher {
     ) -> Result<(), NoMemory>
         requires of_set { is_of_set self.now.charset text.now ≡ true }
         requires some { 1 ≤ length text.now }
+        requires ascending { AreAscending tails.old.items }
         ensures { OnOk result (tails.new.items
             ≡ tails_with (uca_list self.now.charset self.now.kind self.now.keys 1)
             (proper_prefixes text.now) tails.old.items) }
@@ -90,7 +92,8 @@ impl Weigher {
         prefix: &[u32],
         tails: &mut Vec<Weights>,
     ) -> Result<(), NoMemory>
-        requires { is_of_set self.now.charset prefix.now ≡ true }
+        requires of_set { is_of_set self.now.charset prefix.now ≡ true }
+        requires ascending { AreAscending tails.old.items }
         ensures { OnOk result (tails.new.items
             ≡ tails_with (uca_list self.now.charset self.now.kind self.now.keys 1)
             (prefix.now ∷ []) tails.old.items) }
@@ -105,18 +108,31 @@ impl Weigher {
 
 /// Puts a list in its place among ascending ones; one that is there stays once.
 fn insert_list(lists: &mut Vec<Weights>, list: Weights) -> Result<(), NoMemory>
+    requires { AreAscending lists.old.items }
     ensures { OnOk result (lists.new.items ≡ insert_list list lists.old.items) }
 {
-    for place in 0..lists.len() {
-        match compare_lists(list.as_slice(), lists[place].as_slice(), Pad::NoPad, 0) {
-            Ordering::Less => {
-                lists.insert(place, list)?;
-                return Ok(());
-            }
-            Ordering::Equal => return Ok(()),
-            Ordering::Greater => {}
+    if let Some(place) = place_of(lists.as_slice(), list.as_slice()) {
+        lists.insert(place, list)?;
+    }
+    Ok(())
+}
+
+/// Where a list has to be put among ascending ones; None where it is one of them.
+fn place_of(lists: &[Weights], list: &[u32]) -> Option<usize>
+    requires { AreAscending lists.now }
+    ensures { MatchOption result (insert_list list.now lists.now ≡ lists.now)
+        (λ place. IsPlace list.now lists.now place) }
+{
+    order_laws();
+    let mut low = 0;
+    let mut high = lists.len();
+    while low < high {
+        let middle = low + (high - low) / 2;
+        match compare_lists(list, lists[middle].as_slice(), Pad::NoPad, 0) {
+            Ordering::Less => high = middle,
+            Ordering::Equal => return None,
+            Ordering::Greater => low = middle + 1,
         }
     }
-    lists.push(list)?;
-    Ok(())
+    Some(low)
 }

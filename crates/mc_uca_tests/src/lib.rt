@@ -4,3 +4,5 @@
 
 #[cfg(test)]
 mod order_tests;
+#[cfg(test)]
+mod padded_tests;

@@ -6,7 +6,7 @@ use Rattle.mc_charset.specs.Chars.{chars, chars_behind, is_spelled, spell, spell
 use Rattle.mc_charset.specs.declared.charset.Charset.TheVariants.{Latin1, Utf8mb4, Utf16, Utf32, Binary}
 use Rattle.mc_convert.specs.Conversion.{converted_text, taken_for}
 use Rattle.mc_values.specs.Conversion.{conversion}
-use Rattle.mc_values.specs.Hexadecimal.{hex_digits}
+use Rattle.mc_values.specs.Hexadecimal.{hex_digits, number_digits}
 use Rattle.mc_values.specs.Shown.{shown}
 use Rattle.mc_values.specs.Shown.Shown.{text}
 use Rattle.mc_values.specs.declared.value.Value.TheVariants.{Str}
@@ -41,6 +41,19 @@ hex_of_abc = refl
 hex_letters : hex_digits (0x0F ∷ 0xA0 ∷ 0x9B ∷ []) ≡ codes "0FA09B"
 unfolding hex_digits
 hex_letters = refl
+
+-- HEX(255) of the MySQL 8.0 manual, 12.8; HEX(0) and HEX(-2).
+hex_of_255 : number_digits (pos 255) ≡ codes "FF"
+unfolding digits number_digits
+hex_of_255 = refl
+
+hex_of_0 : number_digits (pos 0) ≡ codes "0"
+unfolding digits number_digits
+hex_of_0 = refl
+
+hex_of_minus_2 : number_digits (negsuc 1) ≡ codes "FFFFFFFFFFFFFFFE"
+unfolding digits number_digits
+hex_of_minus_2 = refl
 
 -- CONVERT(X'C3A9' USING utf8mb4) takes the bytes for a text; X'E9' is none, so it is NULL.
 taken : conversion Binary Utf8mb4 (0xC3 ∷ 0xA9 ∷ []) ≡ Some (0xC3 ∷ 0xA9 ∷ [])

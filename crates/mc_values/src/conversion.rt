@@ -1,6 +1,7 @@
 ghost use Rattle.mc_charset.specs.Chars.{IsWellFormed};
 ghost use Rattle.mc_values.specs.Conversion.{conversion};
-ghost use Rattle.std.specs.Prelude.{◌≡◌, IfOk, IfSome};
+ghost use Rattle.mc_values.specs.Values.{greatest_string};
+ghost use Rattle.std.specs.Prelude.{◌≡◌, ◌≤◌, IfOk, IfSome, length};
 
 use crate::limit::within_limit;
 use mc_base::{NoMemory, Text};
@@ -21,6 +22,7 @@ pub fn convert_value(
     requires { IsWellFormed from text.now }
     ensures is { IfOk result (λ value. value ≡ conversion from to text.now) }
     ensures well_formed { IfOk result (λ value. IfSome value (IsWellFormed to)) }
+    ensures short { IfOk result (λ value. IfSome value (λ kept. length kept ≤ greatest_string)) }
 {
     if from == Charset::Binary && to != Charset::Binary {
         return match reinterpret(alloc, to, text)? {

@@ -1,4 +1,4 @@
-ghost use Rattle.mc_values.specs.Hexadecimal.{hex_digit, hex_digits, hex_pair};
+ghost use Rattle.mc_values.specs.Hexadecimal.{hex_digit, hex_digits, hex_pair, number_digits};
 ghost use Rattle.std.specs.Prelude.{
   ◌≡◌,
   ◌<◌,
@@ -9,14 +9,17 @@ ghost use Rattle.std.specs.Prelude.{
   length,
   take,
 };
+ghost use Rattle.std.specs.Str.{IsAscii};
 
 use mc_base::{NoMemory, Text};
+use std::alloc::Global;
 
 /// Appends two digits for each byte, in upper case; without memory for all of them, none.
 pub fn push_hex(out: &mut Text, bytes: &[u8]) -> Result<(), NoMemory>
     ensures ok { OnOk result (out.new ≡ out.old ++ hex_digits bytes.now) }
     ensures err { OnErr result (out.new ≡ out.old) }
 {
+    out.reserve(bytes.len().saturating_mul(2))?;
     let len = out.len();
     match push_pairs(out, bytes) {
         Ok(()) => Ok(()),
@@ -25,6 +28,16 @@ pub fn push_hex(out: &mut Text, bytes: &[u8]) -> Result<(), NoMemory>
             Err(NoMemory)
         }
     }
+}
+
+/// Appends the digits of the number's two's complement in 64 bits, in upper case, with no zeros in
+/// front, `0` for 0; without memory, none. MySQL 8.0 manual, 12.8, HEX.
+pub fn push_hex_number(alloc: Global, out: &mut Text, number: i64) -> Result<(), NoMemory>
+    ensures ok { OnOk result (out.new ≡ out.old ++ number_digits number) }
+    ensures err { OnErr result (out.new ≡ out.old) }
+{
+    let digits = format!(in alloc; "{number:X}")?;
+    out.extend_from_slice(digits.as_bytes())
 }
 
 /// Appends two digits for each byte, or without memory those of some first bytes.
@@ -60,9 +73,10 @@ fn hex_digit(value: u8) -> u8
     }
 }
 
-/// Hexadecimal digits are UTF-8.
+/// Hexadecimal digits are ASCII, and so UTF-8.
 pub fn hex_law(bytes: &[u8])
-    ensures { IsUtf8 (hex_digits bytes.now) }
+    ensures ascii { IsAscii (hex_digits bytes.now) }
+    ensures utf8 { IsUtf8 (hex_digits bytes.now) }
 {
     let _len = bytes.len();
 }

@@ -6,11 +6,13 @@
 //! utf16.
 //!
 //! Read the modules in this order: `value` (values, rows, copies), `answer`, `limit` (the greatest
-//! length of a string), `numbers` (a number as a text), `hexadecimal` (the digits of bytes),
-//! `conversion` (a string in another set), and `laws`, which other crates prove with.
+//! length of a string), `ascii` and `numbers` (an ASCII text and a number as texts of a set),
+//! `hexadecimal` (the digits of bytes and of numbers), `conversion` (a string in another set), and `laws`, which
+//! other crates prove with.
 #![tactic(auto)]
 
 mod answer;
+mod ascii;
 mod conversion;
 mod hexadecimal;
 mod laws;
@@ -19,9 +21,10 @@ mod numbers;
 mod value;
 
 pub use answer::Answer;
+pub use ascii::ascii_text;
 pub use conversion::convert_value;
-pub use hexadecimal::{hex_law, push_hex};
+pub use hexadecimal::{hex_law, push_hex, push_hex_number};
 pub use laws::{ascii_law, shown_law};
-pub use limit::{GREATEST_STRING, within_limit};
+pub use limit::{GREATEST_STRING, is_within_limit, within_limit};
 pub use numbers::int_text;
 pub use value::{Row, Value, copy_value};

@@ -40,6 +40,8 @@ mod strings;
 #[cfg(test)]
 mod tests;
 mod unanswered;
+#[cfg(test)]
+mod unicode_tests;
 mod values;
 mod words;
 

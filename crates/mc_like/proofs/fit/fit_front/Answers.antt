@@ -5,9 +5,11 @@ use Rattle.mc_charset.specs.Chars.{chars}
 use Rattle.mc_order.specs.Meaning.{IsCharOf}
 use Rattle.mc_like.specs.Items.{literal_count}
 use Rattle.mc_like.specs.Pattern.{AreOfSet, is_of_set}
-use Rattle.mc_like.proofs.Counts.{literal_count-any, literal_count-cons, literal_count-none, at_least_more}
+use Rattle.mc_like.proofs.Counts.{literal_count-any, literal_count-cons, literal_count-none}
+use Rattle.mc_like.proofs.Counts.{at_least_more}
 use Rattle.mc_like.proofs.Items.{is_char, no_items}
-use Rattle.mc_like.proofs.Passes.{at_any, at_text_end, at_misfit, at_one_more, at_items_end, at_both_ends}
+use Rattle.mc_like.proofs.Passes.{at_any, at_text_end, at_misfit, at_one_more, at_items_end}
+use Rattle.mc_like.proofs.Passes.{at_both_ends}
 use Rattle.mc_like.proofs.fit.fit_front.Goals as goal
 
 pub returns-in-Any-clause-fit : goal.returns-in-Any-clause-fit
@@ -44,8 +46,8 @@ returns-in_default-first_in g c = record {
   left_of_set = tt;
 }
 
-pub is_like-requires : goal.is_like-requires
-is_like-requires g c =
+pub is_taken-requires : goal.is_taken-requires
+is_taken-requires g c =
     let set = g.E.Encoding.set in
     let item = c.in-Some.item.now in
     let first = c.in-Some-first_in.ensures in
@@ -58,18 +60,18 @@ is_like-requires g c =
           (is_char set c.in-Some-first_in.code first.of_set);
     }
 
-pub returns-then-not-is_like : goal.returns-then-not-is_like
-returns-then-not-is_like g c = record {
+pub returns-then-not-is_taken : goal.returns-then-not-is_taken
+returns-then-not-is_taken g c = record {
   fit = at_misfit (g.C.Collation.meaning c.args.collation.now) c.args.items.now
       c.loop-item.left.now c.in-Some.more.now (chars g.E.Encoding.set c.args.text.now)
       (chars g.E.Encoding.set c.loop-item.rest.now)
       (chars g.E.Encoding.set c.in-Some-first_in.behind.now) c.in-Some.item.now
       c.in-Some-first_in.code c.loop-item.invariant.0 c.in-Some.ensures.cases.0
       c.in-Some-first_in.ensures.first (record { other = c.in_default-item.not-Any })
-      (λ takes. let never : false ≡ true = c.if-not-is_like.ensures.takes.1 takes in cc);
+      (λ takes. let never : false ≡ true = c.if-not-is_taken.ensures.takes.1 takes in cc);
   ticks = (
-    omega (arith, c.loop-item.invariant.2, c.in-Some.ensures.cases.1, c.is_like.ensures.at_most),
-    omega (arith, c.loop-item.invariant.4, c.is_like.ensures.at_least),
+    omega (arith, c.loop-item.invariant.2, c.in-Some.ensures.cases.1, c.is_taken.ensures.at_most),
+    omega (arith, c.loop-item.invariant.4, c.is_taken.ensures.at_least),
   );
   left_of_set = tt;
 }
@@ -77,19 +79,20 @@ returns-then-not-is_like g c = record {
 pub loop-item-preserved : goal.loop-item-preserved
 loop-item-preserved g c =
     let cases = c.in-Some.ensures.cases in
-    let count = ap literal_count cases.0 ∙ literal_count-cons c.in-Some.item.now c.in-Some.more.now in (
+    let count = ap literal_count cases.0
+    ∙ literal_count-cons c.in-Some.item.now c.in-Some.more.now in (
       at_one_more (g.C.Collation.meaning c.args.collation.now) c.args.items.now
           c.loop-item.left.now c.in-Some.more.now (chars g.E.Encoding.set c.args.text.now)
           (chars g.E.Encoding.set c.loop-item.rest.now)
           (chars g.E.Encoding.set c.in-Some-first_in.behind.now) c.in-Some.item.now
           c.in-Some-first_in.code c.loop-item.invariant.0 cases.0
           c.in-Some-first_in.ensures.first (record { other = c.in_default-item.not-Any })
-          (c.if-not-is_like.ensures.takes.0 refl),
+          (c.if-not-is_taken.ensures.takes.0 refl),
       All-rest (λ item. IsTrue (is_of_set g.E.Encoding.set item)) c.in-Some.item.now
           c.in-Some.more.now c.loop-item.left.now cases.0 c.loop-item.invariant.1,
-      omega (arith, c.loop-item.invariant.2, cases.1, c.is_like.ensures.at_most),
-      at_least_more _ _ _ _ _ _ _ _ c.loop-item.invariant.3 count c.is_like.ensures.at_least,
-      omega (arith, c.loop-item.invariant.4, c.is_like.ensures.at_least),
+      omega (arith, c.loop-item.invariant.2, cases.1, c.is_taken.ensures.at_most),
+      at_least_more _ _ _ _ _ _ _ _ c.loop-item.invariant.3 count c.is_taken.ensures.at_least,
+      omega (arith, c.loop-item.invariant.4, c.is_taken.ensures.at_least),
     )
 
 pub returns-in-Some-first_in-2-clause-fit : goal.returns-in-Some-first_in-2-clause-fit

@@ -1,6 +1,6 @@
 use Rattle.std.proofs.Common.{◌+◌, ◌≤◌, length, min}
 use Rattle.mc_charset.specs.Chars.{chars}
-use Rattle.mc_like.specs.Fits.{last_count}
+use Rattle.mc_like.specs.Fronts.{last_count}
 use Rattle.mc_like.specs.Items.{literal_count}
 use Rattle.mc_like.specs.Pattern.{AreOfSet}
 use Rattle.mc_like.proofs.Passes.{Passes}

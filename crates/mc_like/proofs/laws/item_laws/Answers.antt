@@ -1,4 +1,5 @@
-use Rattle.mc_like.proofs.LawLemmas.{each_is_item, each_other_is_item, escaped_is_literal, last_escape_is_literal}
+use Rattle.mc_like.proofs.LawLemmas.{each_is_item, each_other_is_item, escaped_is_literal}
+use Rattle.mc_like.proofs.LawLemmas.{last_escape_is_literal}
 use Rattle.mc_like.proofs.laws.item_laws.Goals as goal
 
 pub returns : goal.returns

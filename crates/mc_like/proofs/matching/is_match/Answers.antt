@@ -1,5 +1,5 @@
 use Rattle.mc_charset.specs.Chars.{chars}
-use Rattle.mc_like.proofs.Fits.{no_fit}
+use Rattle.mc_like.proofs.Fronts.{no_fit}
 use Rattle.mc_like.proofs.matching.is_match.Goals as goal
 
 pub returns-in-Misfit-clause-exact : goal.returns-in-Misfit-clause-exact

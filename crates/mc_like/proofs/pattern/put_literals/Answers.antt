@@ -1,6 +1,7 @@
 use Rattle.std.proofs.Common.{◌∷◌, ◌++◌, ap, ◌∙◌}
 use Rattle.mc_like.specs.Items.{literal_front}
-use Rattle.mc_like.proofs.Items.{front_ends, front_goes_on, literal_front-none, literal_front-other, no_items}
+use Rattle.mc_like.proofs.Items.{front_ends, front_goes_on, literal_front-none, literal_front-other}
+use Rattle.mc_like.proofs.Items.{no_items}
 use Rattle.mc_like.proofs.pattern.put_literals.Goals as goal
 
 pub returns-in_default-item : goal.returns-in_default-item

@@ -11,7 +11,7 @@ pub put_tails-requires-clause-some : goal.put_tails-requires-clause-some
 put_tails-requires-clause-some c =
     let entries = c.args.self.now.keys.entries in
     let text = c.contraction-text.result.now in
-    let one = at_place (contractions_of entries) c.args.place text c.requires
+    let one = at_place (contractions_of entries) c.args.place text c.requires.within
     c.contraction-text.ensures in
     let two = ((c.longest_law.ensures.all entries text).sound text one).0 in
     omega (arith, two)
@@ -22,7 +22,7 @@ returns-then-not-is_of_set c = λ h.
     let first = uca_list self.charset self.kind self.keys 1 in
     let text = c.contraction-text.result.now in
     h ∙ ap (tails_of first) (sym (filter_failing (is_of_set self.charset)
-    (contractions_of self.keys.entries) c.args.place text c.requires c.contraction-text.ensures
+    (contractions_of self.keys.entries) c.args.place text c.requires.within c.contraction-text.ensures
     (sym c.is_of_set.ensures ∙ c.if-not-is_of_set.true)))
 
 pub returns : goal.returns
@@ -32,6 +32,6 @@ returns c = λ h.
     let text = c.contraction-text.result.now in
     let xs = contractions_of self.keys.entries in
     more_tails first text (filter (is_of_set self.charset) (drop (c.args.place + 1) xs)) _ _ _
-    (filter_passing (is_of_set self.charset) xs c.args.place text c.requires
+    (filter_passing (is_of_set self.charset) xs c.args.place text c.requires.within
     c.contraction-text.ensures (sym c.is_of_set.ensures ∙ c.if-not-is_of_set.false)) h
     c.in_ok-put_tails.ensures
