@@ -65,13 +65,15 @@ def make_parser() -> argparse.ArgumentParser:
 
 
 def statement_of(tokens: list[Token], dice: random.Random) -> Statement:
-    """The tokens as a statement. Between two of them stand blanks or a comment."""
+    """The tokens as a statement. Between two of them stand blanks or a comment, and so may they
+    behind the last one, where they belong to the statement."""
     text, places = "", []
     for token in tokens or [Token("mark", ")")]:
         if text:
             text += dice.choice([" ", " ", " ", "\n", "\t ", "/* ; */", " /**/ "])
         places.append(len(text))
         text += spelled(token, dice)
+    text += dice.choice(["", "", "", " ", "\n\t", "/* ; */", " -- ;\n", "#;\n "])
     return Statement(tokens or [Token("mark", ")")], text, [*places, len(text)])
 
 
@@ -96,6 +98,7 @@ def wanted_of(verdict: Verdict, statement: Statement, start: int) -> str:
     place = start + statement.places[verdict.place]
     return {
         "read": "read",
+        "many": "ERROR 9004: more than 2048 tokens",
         "stuck": f"ERROR 9001: no reading at byte {place}",
         "deep": f"ERROR 9003: nested deeper than 64 at byte {place}",
     }[verdict.what]

@@ -40,6 +40,8 @@ SELECT {"-(" * 32}^-1
 SELECT {"(" * 64}|= (
 SELECT {"(" * 63}COUNT(*|, 1)
 SELECT {"1+" * 100}|
+SELECT {"1+" * 1023}1
+SELECT {"1+" * 1022}1 |1
 """.strip().split("\n")
 
 
@@ -56,6 +58,12 @@ class ChartTest(unittest.TestCase):
             self.assertEqual(wanted, verdict.what, marked)
             if mark:
                 self.assertEqual(marked.index(mark), places[verdict.place], marked)
+
+    def test_too_many(self) -> None:
+        """One token more than a statement may have, wherever it is stuck."""
+        tokens, _ = tokens_of(f"{'1+' * 1024}1")
+        self.assertEqual("many", verdict_of(tokens).what)
+        self.assertEqual("stuck", verdict_of(tokens[:-1]).what)
 
     def test_rules(self) -> None:
         """A rule for each line of the grammar, and what may stand at the start."""

@@ -6,6 +6,7 @@ from typing import NamedTuple
 from .grammar import GRAMMAR, START, Grammar, Step, Token, is_of
 
 NEST_LIMIT = 64
+TOKEN_LIMIT = 2048
 
 
 class Item(NamedTuple):
@@ -93,8 +94,8 @@ class Chart:
 
 
 class Verdict(NamedTuple):
-    """What comes of a list of tokens: `read`, or `stuck` or `deep` at the token of a number, which
-    is how many there are where the end is the place."""
+    """What comes of a list of tokens: `many` where they are too many, `read`, or `stuck` or `deep` at
+    the token of a number, which is how many there are where the end is the place."""
 
     what: str
     place: int
@@ -102,10 +103,13 @@ class Verdict(NamedTuple):
 
 def verdict_of(tokens: Sequence[Token]) -> Verdict:
     """What comes of the tokens."""
+    if len(tokens) > TOKEN_LIMIT:
+        return Verdict("many", len(tokens))
     endless, within = Chart(None), Chart(NEST_LIMIT)
     for place, token in enumerate(tokens):
         if not endless.takes(token):
             return Verdict("stuck", place)
         if not within.takes(token):
             return Verdict("deep", place)
-    return Verdict("read" if within.is_whole else "stuck", len(tokens))
+    assert endless.is_whole == within.is_whole, "only its levels may keep a list from being whole"
+    return Verdict("read" if endless.is_whole else "stuck", len(tokens))

@@ -2,7 +2,7 @@
 
 import random
 
-from .chart import Chart
+from .chart import TOKEN_LIMIT, Chart
 from .grammar import GRAMMAR, RESERVED, START, Step, Token
 
 MARKS = "( ) , . * + - % = <> != < <= > >= <=>".split()
@@ -162,8 +162,17 @@ def going_on(dice: random.Random) -> list[Token]:
     return tokens + [any_token(dice) for _ in range(dice.randrange(3))]
 
 
+def lengthy(dice: random.Random) -> list[Token]:
+    """A sum of about as many tokens as a statement may have, or of many more."""
+    wanted = TOKEN_LIMIT + dice.choice([-1, 0, 1, 1, 2, 2, 1000])
+    one, plus = Token("int", "1"), Token("mark", "+")
+    return [Token("word", "select"), *([one, plus] * wanted)[: wanted - 1]]
+
+
 def a_list(dice: random.Random) -> list[Token]:
     """A list of tokens of one kind or another."""
+    if dice.randrange(100) == 0:
+        return lengthy(dice)
     kind = dice.randrange(10)
     if kind < 2:
         return derived(dice)

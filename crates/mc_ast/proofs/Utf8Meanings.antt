@@ -8,14 +8,45 @@ use Rattle.mc_base.specs.declared.span.Span.{Span}
 use Rattle.mc_grammar.specs.Grammar.{Symbol, one, rule}
 use Rattle.mc_token.specs.TokenLaws.{HasUtf8Text}
 use Rattle.mc_sql.specs.Classes.{Class, is_lexeme_of}
-use Rattle.mc_sql.specs.Rules.{Rule, Alternative, star_statement, items_statement, no_explain, explained, no_distinct, distinct_rows, no_more_items, one_more_item, no_source, given_source, from_table, no_where, where_holds, no_group, group_by, no_more_ors, one_more_or, no_order, order_by, no_more_orders, one_more_order, no_limit, limit_rows, no_offset, offset_before, offset_behind, one_item, no_alias, as_alias, bare_alias, one_order, no_direction, ascending, descending, xors, no_more_xors, one_more_xor, ands, no_more_ands, one_more_and, nots, no_more_nots, one_more_not, negated, just_pred, just_sum, compared, tested_null, matched, listed, ranged, no_not, with_not, no_escape, with_escape, equal, null_equal, unequal, unequal_bang, less, less_equal, greater, greater_equal, prods, no_more_prods, plus_prod, minus_prod, negs, no_more_negs, times_neg, div_neg, percent_neg, mod_neg, minus, just_coll, collated, no_more_collates, one_more_collate, by_name, by_binary, number, true_word, false_word, null_word, just_string, column, table_column, just_call, in_parens, plain_string, national_string, hex_string, intro_string, intro_hex, no_more_strs, one_more_str, convert_call, cast_char_call, cast_binary_call, count_all_call, count_distinct_call, trim_side_call, trim_call, substring_call, weight_string_call, empty_call, single_call, many_call, no_set, with_set, both_sides, leading_side, trailing_side, no_or, given_or, no_length, with_length, no_cut, char_cut, binary_cut}
+use Rattle.mc_sql.specs.Rules.{Rule, Alternative, star_statement, items_statement, no_explain}
+use Rattle.mc_sql.specs.Rules.{explained, no_distinct, distinct_rows, no_more_items, one_more_item}
+use Rattle.mc_sql.specs.Rules.{no_source, given_source, from_table, no_where, where_holds, no_group}
+use Rattle.mc_sql.specs.Rules.{group_by, no_more_ors, one_more_or, no_order, order_by}
+use Rattle.mc_sql.specs.Rules.{no_more_orders, one_more_order, no_limit, limit_rows, no_offset}
+use Rattle.mc_sql.specs.Rules.{offset_before, offset_behind, one_item, no_alias, as_alias}
+use Rattle.mc_sql.specs.Rules.{bare_alias, one_order, no_direction, ascending, descending, xors}
+use Rattle.mc_sql.specs.Rules.{no_more_xors, one_more_xor, ands, no_more_ands, one_more_and, nots}
+use Rattle.mc_sql.specs.Rules.{no_more_nots, one_more_not, negated, just_pred, just_sum, compared}
+use Rattle.mc_sql.specs.Rules.{tested_null, matched, listed, ranged, no_not, with_not, no_escape}
+use Rattle.mc_sql.specs.Rules.{with_escape, equal, null_equal, unequal, unequal_bang, less}
+use Rattle.mc_sql.specs.Rules.{less_equal, greater, greater_equal, prods, no_more_prods, plus_prod}
+use Rattle.mc_sql.specs.Rules.{minus_prod, negs, no_more_negs, times_neg, div_neg, percent_neg}
+use Rattle.mc_sql.specs.Rules.{mod_neg, minus, just_coll, collated, no_more_collates}
+use Rattle.mc_sql.specs.Rules.{one_more_collate, by_name, by_binary, number, true_word, false_word}
+use Rattle.mc_sql.specs.Rules.{null_word, just_string, column, table_column, just_call, in_parens}
+use Rattle.mc_sql.specs.Rules.{plain_string, national_string, hex_string, intro_string, intro_hex}
+use Rattle.mc_sql.specs.Rules.{no_more_strs, one_more_str, convert_call, cast_char_call}
+use Rattle.mc_sql.specs.Rules.{cast_binary_call, count_all_call, count_distinct_call}
+use Rattle.mc_sql.specs.Rules.{trim_side_call, trim_call, substring_call, weight_string_call}
+use Rattle.mc_sql.specs.Rules.{empty_call, single_call, many_call, no_set, with_set, both_sides}
+use Rattle.mc_sql.specs.Rules.{leading_side, trailing_side, no_or, given_or, no_length, with_length}
+use Rattle.mc_sql.specs.Rules.{no_cut, char_cut, binary_cut}
 use Rattle.mc_sql.specs.Statements.{symbols}
 use Rattle.mc_ast.specs.declared.operators.TrimSide.TheVariants.{Both}
 use Rattle.mc_ast.specs.Meaning.{meaning}
 use Rattle.mc_ast.specs.Texts.{HasUtf8, HasUtf8Strings}
 use Rattle.mc_ast.specs.Values as V
 use Rattle.mc_ast.specs.Values.{Value}
-use Rattle.mc_ast.proofs.Utf8Nodes.{AreUtf8, AreUtf8Operations, all_exprs, and_utf8, arith_utf8, between_utf8, call_utf8, cast_binary_utf8, cast_char_utf8, collate_utf8, compare_utf8, convert_utf8, count_all_utf8, count_distinct_utf8, false_utf8, grouped_utf8, grouped_xor_utf8, hex_utf8, in_utf8, int_utf8, intro_hex_utf8, intro_str_utf8, like_utf8, name_utf8, national_text, national_utf8, neg_utf8, not_utf8, null_utf8, null_word_utf8, or_utf8, qualified_utf8, str_text, str_utf8, substring_rest_utf8, substring_utf8, trim_alone_utf8, trim_utf8, true_utf8, under_utf8, weight_string_utf8, xor_utf8}
+use Rattle.mc_ast.proofs.Utf8Nodes.{AreUtf8, AreUtf8Operations, all_exprs, and_utf8, arith_utf8}
+use Rattle.mc_ast.proofs.Utf8Nodes.{between_utf8, call_utf8, cast_binary_utf8, cast_char_utf8}
+use Rattle.mc_ast.proofs.Utf8Nodes.{collate_utf8, compare_utf8, convert_utf8, count_all_utf8}
+use Rattle.mc_ast.proofs.Utf8Nodes.{count_distinct_utf8, false_utf8, grouped_utf8, grouped_xor_utf8}
+use Rattle.mc_ast.proofs.Utf8Nodes.{hex_utf8, in_utf8, int_utf8, intro_hex_utf8, intro_str_utf8}
+use Rattle.mc_ast.proofs.Utf8Nodes.{like_utf8, name_utf8, national_text, national_utf8, neg_utf8}
+use Rattle.mc_ast.proofs.Utf8Nodes.{not_utf8, null_utf8, null_word_utf8, or_utf8, qualified_utf8}
+use Rattle.mc_ast.proofs.Utf8Nodes.{str_text, str_utf8, substring_rest_utf8, substring_utf8}
+use Rattle.mc_ast.proofs.Utf8Nodes.{trim_alone_utf8, trim_utf8, true_utf8, under_utf8}
+use Rattle.mc_ast.proofs.Utf8Nodes.{weight_string_utf8, xor_utf8}
 
 -- The strings of the meaning are UTF-8.
 abbrev pub IsGood : Value → Type 0

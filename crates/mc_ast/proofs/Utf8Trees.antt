@@ -7,7 +7,29 @@ use Rattle.mc_grammar.specs.Reading.{Forest, bare, leaf, node, tokens_of, Fits}
 use Rattle.mc_token.specs.TokenLaws.{HaveUtf8Texts, HasUtf8Text}
 use Rattle.mc_token.specs.declared.lexeme.Token.{Token}
 use Rattle.mc_sql.specs.Classes.{Class}
-use Rattle.mc_sql.specs.Rules.{Rule, Alternative, statement, star_statement, items_statement, no_explain, explained, no_distinct, distinct_rows, no_more_items, one_more_item, no_source, given_source, from_table, no_where, where_holds, no_group, group_by, no_more_ors, one_more_or, no_order, order_by, no_more_orders, one_more_order, no_limit, limit_rows, no_offset, offset_before, offset_behind, one_item, no_alias, as_alias, bare_alias, one_order, no_direction, ascending, descending, xors, no_more_xors, one_more_xor, ands, no_more_ands, one_more_and, nots, no_more_nots, one_more_not, negated, just_pred, just_sum, compared, tested_null, matched, listed, ranged, no_not, with_not, no_escape, with_escape, equal, null_equal, unequal, unequal_bang, less, less_equal, greater, greater_equal, prods, no_more_prods, plus_prod, minus_prod, negs, no_more_negs, times_neg, div_neg, percent_neg, mod_neg, minus, just_coll, collated, no_more_collates, one_more_collate, by_name, by_binary, number, true_word, false_word, null_word, just_string, column, table_column, just_call, in_parens, plain_string, national_string, hex_string, intro_string, intro_hex, no_more_strs, one_more_str, convert_call, cast_char_call, cast_binary_call, count_all_call, count_distinct_call, trim_side_call, trim_call, substring_call, weight_string_call, empty_call, single_call, many_call, no_set, with_set, both_sides, leading_side, trailing_side, no_or, given_or, no_length, with_length, no_cut, char_cut, binary_cut}
+use Rattle.mc_sql.specs.Rules.{Rule, Alternative, statement, star_statement, items_statement}
+use Rattle.mc_sql.specs.Rules.{no_explain, explained, no_distinct, distinct_rows, no_more_items}
+use Rattle.mc_sql.specs.Rules.{one_more_item, no_source, given_source, from_table, no_where}
+use Rattle.mc_sql.specs.Rules.{where_holds, no_group, group_by, no_more_ors, one_more_or, no_order}
+use Rattle.mc_sql.specs.Rules.{order_by, no_more_orders, one_more_order, no_limit, limit_rows}
+use Rattle.mc_sql.specs.Rules.{no_offset, offset_before, offset_behind, one_item, no_alias}
+use Rattle.mc_sql.specs.Rules.{as_alias, bare_alias, one_order, no_direction, ascending, descending}
+use Rattle.mc_sql.specs.Rules.{xors, no_more_xors, one_more_xor, ands, no_more_ands, one_more_and}
+use Rattle.mc_sql.specs.Rules.{nots, no_more_nots, one_more_not, negated, just_pred, just_sum}
+use Rattle.mc_sql.specs.Rules.{compared, tested_null, matched, listed, ranged, no_not, with_not}
+use Rattle.mc_sql.specs.Rules.{no_escape, with_escape, equal, null_equal, unequal, unequal_bang}
+use Rattle.mc_sql.specs.Rules.{less, less_equal, greater, greater_equal, prods, no_more_prods}
+use Rattle.mc_sql.specs.Rules.{plus_prod, minus_prod, negs, no_more_negs, times_neg, div_neg}
+use Rattle.mc_sql.specs.Rules.{percent_neg, mod_neg, minus, just_coll, collated, no_more_collates}
+use Rattle.mc_sql.specs.Rules.{one_more_collate, by_name, by_binary, number, true_word, false_word}
+use Rattle.mc_sql.specs.Rules.{null_word, just_string, column, table_column, just_call, in_parens}
+use Rattle.mc_sql.specs.Rules.{plain_string, national_string, hex_string, intro_string, intro_hex}
+use Rattle.mc_sql.specs.Rules.{no_more_strs, one_more_str, convert_call, cast_char_call}
+use Rattle.mc_sql.specs.Rules.{cast_binary_call, count_all_call, count_distinct_call}
+use Rattle.mc_sql.specs.Rules.{trim_side_call, trim_call, substring_call, weight_string_call}
+use Rattle.mc_sql.specs.Rules.{empty_call, single_call, many_call, no_set, with_set, both_sides}
+use Rattle.mc_sql.specs.Rules.{leading_side, trailing_side, no_or, given_or, no_length, with_length}
+use Rattle.mc_sql.specs.Rules.{no_cut, char_cut, binary_cut}
 use Rattle.mc_sql.specs.Statements.{statements, symbols}
 use Rattle.mc_ast.specs.declared.statement.Statement.{Statement}
 use Rattle.mc_ast.specs.Meaning.{meaning}
@@ -15,7 +37,45 @@ use Rattle.mc_ast.specs.Spans.{span_of}
 use Rattle.mc_ast.specs.Texts.{HasUtf8Strings}
 use Rattle.mc_ast.specs.Trees.{meanings, IsTreeOf}
 use Rattle.mc_ast.specs.Values.{Value, a_statement}
-use Rattle.mc_ast.proofs.Utf8Meanings.{AllGood, IsGood, IsGoodly, good-star_statement, good-items_statement, good-no_explain, good-explained, good-no_distinct, good-distinct_rows, good-no_more_items, good-one_more_item, good-no_source, good-given_source, good-from_table, good-no_where, good-where_holds, good-no_group, good-group_by, good-no_more_ors, good-one_more_or, good-no_order, good-order_by, good-no_more_orders, good-one_more_order, good-no_limit, good-limit_rows, good-no_offset, good-offset_before, good-offset_behind, good-one_item, good-no_alias, good-as_alias, good-bare_alias, good-one_order, good-no_direction, good-ascending, good-descending, good-xors, good-no_more_xors, good-one_more_xor, good-ands, good-no_more_ands, good-one_more_and, good-nots, good-no_more_nots, good-one_more_not, good-negated, good-just_pred, good-just_sum, good-compared, good-tested_null, good-matched, good-listed, good-ranged, good-no_not, good-with_not, good-no_escape, good-with_escape, good-equal, good-null_equal, good-unequal, good-unequal_bang, good-less, good-less_equal, good-greater, good-greater_equal, good-prods, good-no_more_prods, good-plus_prod, good-minus_prod, good-negs, good-no_more_negs, good-times_neg, good-div_neg, good-percent_neg, good-mod_neg, good-minus, good-just_coll, good-collated, good-no_more_collates, good-one_more_collate, good-by_name, good-by_binary, good-number, good-true_word, good-false_word, good-null_word, good-just_string, good-column, good-table_column, good-just_call, good-in_parens, good-plain_string, good-national_string, good-hex_string, good-intro_string, good-intro_hex, good-no_more_strs, good-one_more_str, good-convert_call, good-cast_char_call, good-cast_binary_call, good-count_all_call, good-count_distinct_call, good-trim_side_call, good-trim_call, good-substring_call, good-weight_string_call, good-empty_call, good-single_call, good-many_call, good-no_set, good-with_set, good-both_sides, good-leading_side, good-trailing_side, good-no_or, good-given_or, good-no_length, good-with_length, good-no_cut, good-char_cut, good-binary_cut}
+use Rattle.mc_ast.proofs.Utf8Meanings.{AllGood, IsGood, IsGoodly, good-star_statement}
+use Rattle.mc_ast.proofs.Utf8Meanings.{good-items_statement, good-no_explain, good-explained}
+use Rattle.mc_ast.proofs.Utf8Meanings.{good-no_distinct, good-distinct_rows, good-no_more_items}
+use Rattle.mc_ast.proofs.Utf8Meanings.{good-one_more_item, good-no_source, good-given_source}
+use Rattle.mc_ast.proofs.Utf8Meanings.{good-from_table, good-no_where, good-where_holds}
+use Rattle.mc_ast.proofs.Utf8Meanings.{good-no_group, good-group_by, good-no_more_ors}
+use Rattle.mc_ast.proofs.Utf8Meanings.{good-one_more_or, good-no_order, good-order_by}
+use Rattle.mc_ast.proofs.Utf8Meanings.{good-no_more_orders, good-one_more_order, good-no_limit}
+use Rattle.mc_ast.proofs.Utf8Meanings.{good-limit_rows, good-no_offset, good-offset_before}
+use Rattle.mc_ast.proofs.Utf8Meanings.{good-offset_behind, good-one_item, good-no_alias}
+use Rattle.mc_ast.proofs.Utf8Meanings.{good-as_alias, good-bare_alias, good-one_order}
+use Rattle.mc_ast.proofs.Utf8Meanings.{good-no_direction, good-ascending, good-descending}
+use Rattle.mc_ast.proofs.Utf8Meanings.{good-xors, good-no_more_xors, good-one_more_xor, good-ands}
+use Rattle.mc_ast.proofs.Utf8Meanings.{good-no_more_ands, good-one_more_and, good-nots}
+use Rattle.mc_ast.proofs.Utf8Meanings.{good-no_more_nots, good-one_more_not, good-negated}
+use Rattle.mc_ast.proofs.Utf8Meanings.{good-just_pred, good-just_sum, good-compared}
+use Rattle.mc_ast.proofs.Utf8Meanings.{good-tested_null, good-matched, good-listed, good-ranged}
+use Rattle.mc_ast.proofs.Utf8Meanings.{good-no_not, good-with_not, good-no_escape, good-with_escape}
+use Rattle.mc_ast.proofs.Utf8Meanings.{good-equal, good-null_equal, good-unequal, good-unequal_bang}
+use Rattle.mc_ast.proofs.Utf8Meanings.{good-less, good-less_equal, good-greater, good-greater_equal}
+use Rattle.mc_ast.proofs.Utf8Meanings.{good-prods, good-no_more_prods, good-plus_prod}
+use Rattle.mc_ast.proofs.Utf8Meanings.{good-minus_prod, good-negs, good-no_more_negs}
+use Rattle.mc_ast.proofs.Utf8Meanings.{good-times_neg, good-div_neg, good-percent_neg, good-mod_neg}
+use Rattle.mc_ast.proofs.Utf8Meanings.{good-minus, good-just_coll, good-collated}
+use Rattle.mc_ast.proofs.Utf8Meanings.{good-no_more_collates, good-one_more_collate, good-by_name}
+use Rattle.mc_ast.proofs.Utf8Meanings.{good-by_binary, good-number, good-true_word, good-false_word}
+use Rattle.mc_ast.proofs.Utf8Meanings.{good-null_word, good-just_string, good-column}
+use Rattle.mc_ast.proofs.Utf8Meanings.{good-table_column, good-just_call, good-in_parens}
+use Rattle.mc_ast.proofs.Utf8Meanings.{good-plain_string, good-national_string, good-hex_string}
+use Rattle.mc_ast.proofs.Utf8Meanings.{good-intro_string, good-intro_hex, good-no_more_strs}
+use Rattle.mc_ast.proofs.Utf8Meanings.{good-one_more_str, good-convert_call, good-cast_char_call}
+use Rattle.mc_ast.proofs.Utf8Meanings.{good-cast_binary_call, good-count_all_call}
+use Rattle.mc_ast.proofs.Utf8Meanings.{good-count_distinct_call, good-trim_side_call}
+use Rattle.mc_ast.proofs.Utf8Meanings.{good-trim_call, good-substring_call, good-weight_string_call}
+use Rattle.mc_ast.proofs.Utf8Meanings.{good-empty_call, good-single_call, good-many_call}
+use Rattle.mc_ast.proofs.Utf8Meanings.{good-no_set, good-with_set, good-both_sides}
+use Rattle.mc_ast.proofs.Utf8Meanings.{good-leading_side, good-trailing_side, good-no_or}
+use Rattle.mc_ast.proofs.Utf8Meanings.{good-given_or, good-no_length, good-with_length, good-no_cut}
+use Rattle.mc_ast.proofs.Utf8Meanings.{good-char_cut, good-binary_cut}
 
 good_of : (a : Alternative) → IsGoodly a
 good_of star_statement = good-star_statement

@@ -11,9 +11,10 @@ use Rattle.mc_catalog.specs.declared.catalog.Catalog.{Catalog}
 use Rattle.mc_charset.specs.Chars.{IsWellFormed}
 use Rattle.mc_charset.specs.declared.charset.Charset.{Charset}
 use Rattle.mc_charset.specs.declared.collation_id.CollId.{CollId}
+use Rattle.mycoll.specs.Built.{have_collation, are_compared}
 use Rattle.mycoll.specs.Forms.{collation_of}
 use Rattle.mycoll.specs.OperandSets.{IsOfSet, AreOfSet}
-use Rattle.mycoll.specs.Operands.{operand_string, operand_name, operand_set, have_collation, are_compared}
+use Rattle.mycoll.specs.Operands.{operand_string, operand_name, operand_set}
 use Rattle.mycoll.specs.Strings.{is_plain, string_set}
 use Rattle.mycoll.specs.World.{World, State, AreSound, connection_set}
 use Rattle.mycoll.specs.declared.operand_value.OperandValue.{OperandValue}

@@ -10,5 +10,6 @@ pub mod ItemSteps
 pub mod ReadSteps
 pub mod RunSteps
 pub mod ValueSteps
+pub mod StandardAnswers
 pub mod StandardFacts
 pub mod WantedSteps

@@ -55,8 +55,10 @@ pub one_answer : OneOutcome → (w : World) (before : State) (script : List ℕ)
     → IsAnswer w before script statement said after → IsAnswer w before script statement other behind
     → (said ≡ other) × (after ≡ behind)
 one_answer once w before script statement said other after behind a b =
-    let same : a.read ≡ b.read = read_once once statement.end (tokens_of script statement) a.read b.read a.reads b.reads in
-    (a.told ∙ ap (λ (z : Result Statement Refusal). read_said w before script z) same ∙ sym b.told, a.left ∙ sym b.left)
+    let same : a.read ≡ b.read = read_once once statement.end (tokens_of script statement) a.read b.read a.reads b.reads in (
+      a.told ∙ ap (λ (z : Result Statement Refusal). (read_said w before script z).0) same ∙ sym b.told,
+      a.left ∙ ap (λ (z : Result Statement Refusal). (read_said w before script z).1) same ∙ sym b.left,
+    )
 
 -- Statements one behind the other have at most one list of answers, and leave at most one state.
 answered_once : OneOutcome → (w : World) (s : State) (script : List ℕ) (spans : List Span) (said other : List Said) (after behind : State)

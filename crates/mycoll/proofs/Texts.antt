@@ -8,7 +8,7 @@ use Rattle.mc_ast.specs.declared.expr.Form.TheVariants as form
 use Rattle.mc_ast.specs.declared.expr.Form.TheViews.{out-Form}
 use Rattle.mc_ast.specs.declared.operators.CmpOp.{CmpOp}
 use Rattle.mycoll.specs.Operands.{operand_string}
-use Rattle.mycoll.specs.Strings.{IsUtf8Layer, HasUtf8Text}
+use Rattle.mycoll.specs.Strings.{IsUtf8Layer, HasUtf8Characters}
 
 -- At each of the levels down, the parts are.
 laid_open : (expr : Expr) (layer : Layer) → out-Form expr.form ≡ layer → HasUtf8 expr → (depth : ℕ)
@@ -21,7 +21,7 @@ own_layer (National text) h = h
 own_layer _ h = tt
 
 -- The text of a string is.
-pub own_text : (expr : Expr) → HasUtf8 expr → HasUtf8Text expr
+pub own_text : (expr : Expr) → HasUtf8 expr → HasUtf8Characters expr
 own_text expr h = own_layer (out-Form expr.form) (h 1)
 
 collated_inner : (expr inner : Expr) (name : List ℕ) → out-Form expr.form ≡ Collate inner name → HasUtf8 expr → HasUtf8 inner
@@ -45,10 +45,10 @@ pub call_args : (expr : Expr) (name : List ℕ) (args : List Expr) → expr.form
 call_args expr name args e h = each_arg args (λ depth. laid_open expr (Call name args) (ap out-Form e ∙ form.outs-Call name args) h depth)
 
 -- What stands under COLLATE is.
-pub operand_text : (operand : Expr) → HasUtf8 operand → HasUtf8Text (operand_string operand)
+pub operand_text : (operand : Expr) → HasUtf8 operand → HasUtf8Characters (operand_string operand)
 operand_text operand h = of (out-Form operand.form) refl
   where
-    of : (layer : Layer) → out-Form operand.form ≡ layer → HasUtf8Text (operand_string operand)
+    of : (layer : Layer) → out-Form operand.form ≡ layer → HasUtf8Characters (operand_string operand)
     of (Collate inner name) e = rw (e, operand_string) (own_text inner (collated_inner operand inner name e h))
     of _ e = rw (e, operand_string) (own_text operand h)
 

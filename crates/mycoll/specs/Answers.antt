@@ -47,27 +47,27 @@ items_said w s script items = elim (values_of w s items) [
   | Err refusal ↦ Refused refusal
 ]
 
--- What a tree is answered with.
-unfoldable pub tree_said : World → State → List ℕ → Statement → Said
+-- What a tree is answered with, and the state that it leaves: the one that it finds.
+unfoldable pub tree_said : World → State → List ℕ → Statement → Said × State
 tree_said w s script tree = elim (built (connection_set w s) tree) [
-  | Some items ↦ items_said w s script items
-  | None ↦ Refused not_built
+  | Some items ↦ (items_said w s script items, s)
+  | None ↦ (Refused not_built, s)
 ]
 
--- What a statement is answered with that reads so.
-abbrev pub read_said : World → State → List ℕ → Result Statement Refusal → Said
+-- What a statement is answered with that reads so, and the state that it leaves. A refusal of its
+-- syntax leaves the state as it was.
+abbrev pub read_said : World → State → List ℕ → Result Statement Refusal → Said × State
 read_said w s script (Ok tree) = tree_said w s script tree
-read_said w s script (Err refusal) = Refused refusal
+read_said w s script (Err refusal) = (Refused refusal, s)
 
--- A statement is answered so in a state, and leaves this one, as it was, since it changes nothing:
--- its syntax is refused, else its tree is answered. An answer is what is said; `Answer` is the
--- table among what may be said.
+-- A statement is answered so in a state, and leaves this one: its syntax is refused, else its tree
+-- is answered. An answer is what is said; `Answer` is the table among what may be said.
 pub record IsAnswer (w : World) (before : State) (script : List ℕ) (statement : Span) (said : Said)
     (after : State) : Type 0 where
   pub read : Result Statement Refusal
   pub reads : Reads script statement read
-  pub told : said ≡ read_said w before script read
-  pub left : after ≡ before
+  pub told : said ≡ (read_said w before script read).0
+  pub left : after ≡ (read_said w before script read).1
 
 -- Statements of a script are answered so, one behind the other, and leave this state. What a script
 -- costs will be summed along this.

@@ -1,7 +1,7 @@
 -- Which statements are answered today. When all are, this goes.
-use Rattle.std.specs.Prelude.{ℕ, Bool, true, false, not, ◌&&◌, List, [], ◌∷◌, Option, Some, None}
-use Rattle.std.specs.Prelude.{if◌then◌else◌, codes}
-use Rattle.std.specs.Option.{is_none}
+use Rattle.std.specs.Prelude.{ℕ, Bool, true, false, not, ◌&&◌, ◌||◌, List, [], ◌∷◌, Option, Some}
+use Rattle.std.specs.Prelude.{None, if◌then◌else◌, codes}
+use Rattle.std.specs.Option.{is_some, is_none}
 use Rattle.std.specs.Str.{bytes_eq}
 use Rattle.mc_ast.specs.declared.expr.Expr.{Expr}
 use Rattle.mc_ast.specs.declared.expr.Form.TheOpen.{Compare, Convert, Call, Int, True, False, Null}
@@ -11,9 +11,10 @@ use Rattle.mc_ast.specs.declared.operators.CmpOp.TheVariants.{Eq}
 use Rattle.mc_ast.specs.declared.statement.Item.{Item}
 use Rattle.mc_ast.specs.declared.statement.OrderItem.{OrderItem}
 use Rattle.mc_ast.specs.declared.statement.Statement.{Statement}
+use Rattle.mc_charset.specs.Names.{same_set}
 use Rattle.mc_charset.specs.declared.charset.Charset.{Charset}
-use Rattle.mycoll.specs.Strings.{is_string}
-use Rattle.mycoll.specs.Operands.{are_compared}
+use Rattle.mycoll.specs.Strings.{is_string, is_plain}
+use Rattle.mycoll.specs.Operands.{operand_string, operand_name, operand_set}
 
 -- The operator is `=`.
 abbrev pub is_equal : CmpOp → Bool
@@ -23,6 +24,21 @@ is_equal _ = false
 -- The word is HEX.
 abbrev pub is_hex : List ℕ → Bool
 is_hex name = bytes_eq name (codes "hex")
+
+-- One of the two names a collation; or neither does, and both are strings with nothing before their
+-- quotes.
+abbrev pub have_collation : Expr → Expr → Bool
+have_collation left right =
+    if is_some (operand_name left) then is_none (operand_name right)
+    else (is_some (operand_name right) || (is_plain (operand_string left)
+    && is_plain (operand_string right)))
+
+-- The two are compared today: strings of one set.
+unfoldable pub are_compared : Charset → Expr → Expr → Bool
+are_compared connection left right =
+    is_string (operand_string left) && (is_string (operand_string right)
+    && (have_collation left right
+    && same_set (operand_set connection left) (operand_set connection right)))
 
 -- What HEX is taken of: a string, or CONVERT of one.
 abbrev pub hexed_string : Expr → Expr

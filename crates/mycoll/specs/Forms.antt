@@ -19,8 +19,8 @@ use Rattle.mc_charset.specs.declared.collation_id.CollId.{CollId}
 use Rattle.mc_order.specs.Meaning.{Meaning, flat_list}
 use Rattle.mc_order.specs.Order.{list_order}
 use Rattle.mycoll.specs.Messages.{not_built, unknown_set, unknown_collation, wrong_collation}
-use Rattle.mycoll.specs.Built.{is_equal, is_hex}
-use Rattle.mycoll.specs.Operands.{operand_string, operand_name, operand_set, are_compared}
+use Rattle.mycoll.specs.Built.{is_equal, is_hex, are_compared}
+use Rattle.mycoll.specs.Operands.{operand_string, operand_name, operand_set}
 use Rattle.mycoll.specs.Strings.{string_set, string_text}
 use Rattle.mycoll.specs.Values.{within_limit, conversion, hex_value}
 use Rattle.mycoll.specs.World.{World, State, connection_set}

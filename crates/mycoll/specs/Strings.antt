@@ -70,5 +70,5 @@ IsUtf8Layer (Str text) = IsUtf8 text
 IsUtf8Layer (National text) = IsUtf8 text
 IsUtf8Layer _ = Unit {0}
 
-abbrev pub HasUtf8Text : Expr → Type 0
-HasUtf8Text expr = IsUtf8Layer (out-Form expr.form)
+abbrev pub HasUtf8Characters : Expr → Type 0
+HasUtf8Characters expr = IsUtf8Layer (out-Form expr.form)

@@ -21,22 +21,27 @@ use mc_order::Book;
 use mc_token::next_statement;
 use std::alloc::Global;
 
-/// What a tree is answered with.
+/// What a tree is answered with, in a session that it may change. Without memory the session stays
+/// as it was.
 #[tactic(auto, unfolding(crate::specs::Answers::tree_said))]
 fn tree_said<B: Book>(
     alloc: Global,
     catalog: &Catalog,
     book: &B,
-    session: &Session,
+    session: &mut Session,
     script: &[u8],
     tree: &Statement,
 ) -> Result<Said, NoMemory>
     requires texts { HasUtf8Strings tree.now }
     requires sound { AreSound (world_of catalog.now (B.meaning book.now)) (B.count book.now)
-        (state_of session.now) }
-    ensures is { IfOk result (λ said. said ≡ tree_said (world_of catalog.now (B.meaning book.now))
-        (state_of session.now) script.now tree.now) }
+        (state_of session.old) }
+    ensures is { IfOk result (λ said. (said, state_of session.new)
+        ≡ tree_said (world_of catalog.now (B.meaning book.now)) (state_of session.old) script.now
+        tree.now) }
     ensures texts { IfOk result HasTexts }
+    ensures sound { AreSound (world_of catalog.now (B.meaning book.now)) (B.count book.now)
+        (state_of session.new) }
+    ensures kept { IfErr result (λ _. session.new ≡ session.old) }
 {
     match built(connection_set(catalog, session), tree) {
         Some(items) => items_said(alloc, catalog, book, session, script, items),

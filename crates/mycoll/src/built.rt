@@ -1,6 +1,8 @@
 ghost use Rattle.mycoll.specs.Built.{
   is_equal,
   is_hex,
+  have_collation,
+  are_compared,
   hexed_string,
   are_hexed,
   is_built_form,
@@ -8,13 +10,15 @@ ghost use Rattle.mycoll.specs.Built.{
   is_bare,
   built,
 };
+ghost use Rattle.mycoll.specs.Operands.{operand_set};
+ghost use Rattle.std.specs.Bool.{OnTrue};
 ghost use Rattle.std.specs.Prelude.{◌≡◌, MatchOption, None, Some};
 
-use crate::operands::are_compared;
-use crate::strings::is_string;
+use crate::operands::{operand_name, operand_set, operand_string};
+use crate::strings::{is_plain, is_string};
 use mc_ast::{CmpOp, Expr, Form, Item, Statement};
 use mc_base::Text;
-use mc_charset::Charset;
+use mc_charset::{Charset, same_set};
 
 /// Whether the operator is `=`.
 pub fn is_equal(op: CmpOp) -> bool
@@ -28,6 +32,34 @@ pub fn is_hex(name: &Text) -> bool
     ensures { result ≡ is_hex name.now }
 {
     name.as_slice() == b"hex".as_slice()
+}
+
+/// Whether one of the two names a collation; or neither does, and both are strings with nothing
+/// before their quotes.
+fn have_collation(left: &Expr, right: &Expr) -> bool
+    ensures { result ≡ have_collation left.now right.now }
+{
+    match (operand_name(left), operand_name(right)) {
+        (None, None) => is_plain(operand_string(left)) && is_plain(operand_string(right)),
+        (Some(_), Some(_)) => false,
+        _ => true,
+    }
+}
+
+/// Whether the two are compared today: strings of one set.
+#[tactic(auto, unfolding(crate::specs::Built::are_compared))]
+pub fn are_compared(connection: Charset, left: &Expr, right: &Expr) -> bool
+    ensures is { result ≡ are_compared connection left.now right.now }
+    ensures one_set { OnTrue result
+        (operand_set connection left.now ≡ operand_set connection right.now) }
+{
+    is_string(operand_string(left))
+        && is_string(operand_string(right))
+        && have_collation(left, right)
+        && same_set(
+            operand_set(connection, left),
+            operand_set(connection, right),
+        )
 }
 
 /// What HEX is taken of: a string, or CONVERT of one.

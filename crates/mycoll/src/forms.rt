@@ -2,6 +2,7 @@ ghost use Rattle.mc_ast.specs.Texts.{HasUtf8};
 ghost use Rattle.mc_catalog.specs.Lawful.{IsLawful};
 ghost use Rattle.mc_catalog.specs.LookUp.{collation_set};
 ghost use Rattle.mc_charset.specs.Chars.{IsWellFormed};
+ghost use Rattle.mycoll.specs.Built.{are_compared};
 ghost use Rattle.mycoll.specs.Forms.{
   equality,
   named_collation,
@@ -17,19 +18,19 @@ ghost use Rattle.mycoll.specs.Forms.{
   expr_value,
 };
 ghost use Rattle.mycoll.specs.OperandSets.{IsOfSet, AreOfSet};
-ghost use Rattle.mycoll.specs.Operands.{operand_string, operand_name, operand_set, are_compared};
+ghost use Rattle.mycoll.specs.Operands.{operand_string, operand_name, operand_set};
 ghost use Rattle.mycoll.specs.Print.{IsTextOfSet};
-ghost use Rattle.mycoll.specs.Strings.{HasUtf8Text};
+ghost use Rattle.mycoll.specs.Strings.{HasUtf8Characters};
 ghost use Rattle.mycoll.specs.Unanswered.{IsWanted};
 ghost use Rattle.mycoll.specs.World.{AreSound, connection_set, state_of, world_of};
 ghost use Rattle.std.specs.List.{AllByRecursion};
 ghost use Rattle.std.specs.Option.{is_some, option_copied};
 ghost use Rattle.std.specs.Prelude.{◌≡◌, ◌<◌, IfOk, IfSome, IsTrue, length};
 
-use crate::built::{is_equal, is_hex};
+use crate::built::{are_compared, is_equal, is_hex};
 use crate::messages::{not_built, unknown_collation, unknown_set, wrong_collation};
 use crate::operand_value::OperandValue;
-use crate::operands::{are_compared, operand_name, operand_set, operand_string};
+use crate::operands::{operand_name, operand_set, operand_string};
 use crate::said::Value;
 use crate::session::Session;
 use crate::strings::{string_set, string_text};
@@ -104,7 +105,7 @@ fn operand_value(
     operand: &Expr,
 ) -> Result<OperandValue, Unanswered>
     requires lawful { IsLawful catalog.now }
-    requires utf8 { HasUtf8Text (operand_string operand.now) }
+    requires utf8 { HasUtf8Characters (operand_string operand.now) }
     ensures is { IsWanted result (operand_value catalog.now connection operand.now) }
     ensures of_set { IfOk result (AreOfSet catalog.now (operand_set connection operand.now)) }
     ensures named { IfOk result (λ found.
@@ -137,8 +138,8 @@ fn comparison<B: Book>(
     left: &Expr,
     right: &Expr,
 ) -> Result<Value, Unanswered>
-    requires left { HasUtf8Text (operand_string left.now) }
-    requires right { HasUtf8Text (operand_string right.now) }
+    requires left { HasUtf8Characters (operand_string left.now) }
+    requires right { HasUtf8Characters (operand_string right.now) }
     requires compared { let set = connection_set (world_of catalog.now (B.meaning book.now))
         (state_of session.now) in IsTrue (are_compared set left.now right.now) }
     requires one_set { let set = connection_set (world_of catalog.now (B.meaning book.now))
@@ -176,7 +177,7 @@ fn digits_of(alloc: Global, connection: Charset, text: &Option<Text>) -> Result<
 /// The digits of a string's bytes.
 #[tactic(auto, unfolding(crate::specs::Forms::string_digits))]
 fn string_digits(alloc: Global, connection: Charset, string: &Expr) -> Result<Value, Unanswered>
-    requires { HasUtf8Text string.now }
+    requires { HasUtf8Characters string.now }
     ensures is { IsWanted result (string_digits connection string.now) }
     ensures text { IfOk result IsTextOfSet }
 {
@@ -192,7 +193,7 @@ fn converted_digits(
     string: &Expr,
     name: &Text,
 ) -> Result<Value, Unanswered>
-    requires { HasUtf8Text string.now }
+    requires { HasUtf8Characters string.now }
     ensures is { IsWanted result (converted_digits connection string.now name.now) }
     ensures text { IfOk result IsTextOfSet }
 {

@@ -134,7 +134,7 @@ const SCRIPTS: [Script; 27] = [
     },
     Script {
         why: "a comparison without padding",
-        script: b"SELECT 'a' COLLATE utf8mb4_0900_bin = 'a ';SELECT 'a ' = 'a' COLLATE utf8mb4_bin;",
+        script: b"SELECT 'a' COLLATE utf8mb4_0900_bin = 'a ';SELECT 'a ' = 'a' COLLATE utf8mb4_bin",
         status: Status::Done,
         written: b"'a' COLLATE utf8mb4_0900_bin = 'a '\n0\n'a ' = 'a' COLLATE utf8mb4_bin\n1\n",
     },

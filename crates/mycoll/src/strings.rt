@@ -10,7 +10,7 @@ ghost use Rattle.mycoll.specs.Strings.{
   introduced_text,
   introduced,
   string_text,
-  HasUtf8Text,
+  HasUtf8Characters,
 };
 ghost use Rattle.mycoll.specs.Unanswered.{IsWanted};
 ghost use Rattle.std.specs.Prelude.{◌≡◌, IfOk, IsUtf8};
@@ -110,7 +110,7 @@ fn introduced(alloc: Global, set: Charset, bytes: &Text) -> Result<Text, Unanswe
 /// The text of a string in its set.
 #[tactic(auto, unfolding(crate::specs::Strings::string_text))]
 pub fn string_text(alloc: Global, connection: Charset, expr: &Expr) -> Result<Text, Unanswered>
-    requires { HasUtf8Text expr.now }
+    requires { HasUtf8Characters expr.now }
     ensures is { IsWanted result (string_text connection expr.now) }
     ensures well_formed { IfOk result (λ text.
         IsWellFormed (string_set connection expr.now) text) }

@@ -1,5 +1,4 @@
 ghost use Rattle.mc_charset.specs.Chars.{IsWellFormed};
-ghost use Rattle.mc_charset.specs.declared.charset.Charset.TheVariants.{Utf8mb4};
 ghost use Rattle.mc_convert.specs.Conversion.{converted_text};
 ghost use Rattle.mycoll.specs.Values.{
   within_limit,
@@ -41,16 +40,6 @@ fn in_set(alloc: Global, from: Charset, to: Charset, text: Text) -> Result<Text,
         return Ok(text);
     }
     convert(alloc, from, to, text.as_slice())
-}
-
-/// The script's characters as a text of a set.
-fn script_text(alloc: Global, set: Charset, text: Text) -> Result<Text, NoMemory>
-    requires { IsUtf8 text }
-    ensures is { IfOk result (λ found. found ≡ converted_text Utf8mb4 set text) }
-    ensures well_formed { IfOk result (λ found. IsWellFormed set found) }
-{
-    utf8_law();
-    in_set(alloc, Charset::Utf8mb4, set, text)
 }
 
 /// The value of CONVERT: from binary the bytes are taken for a text of the set, and are NULL where
@@ -113,8 +102,9 @@ pub fn hex_value(alloc: Global, connection: Charset, bytes: &[u8]) -> Result<Opt
     ensures is { IfOk result (λ value. value ≡ hex_value connection bytes.now) }
     ensures well_formed { IfOk result (λ value. IfSome value (IsWellFormed connection)) }
 {
+    utf8_law();
     match within_limit(hex_text(alloc, bytes)?) {
-        Some(digits) => Ok(within_limit(script_text(alloc, connection, digits)?)),
+        Some(digits) => Ok(within_limit(in_set(alloc, Charset::Utf8mb4, connection, digits)?)),
         None => Ok(None),
     }
 }
