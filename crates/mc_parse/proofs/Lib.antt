@@ -7,3 +7,6 @@ pub mod Groups
 pub mod NameWays
 pub mod OperatorWays
 pub mod TruthWays
+pub mod SaidWays
+pub mod MatchingWays
+pub mod MemberWays

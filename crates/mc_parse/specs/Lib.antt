@@ -4,3 +4,5 @@ pub mod Read
 pub mod Lists
 pub mod Signs
 pub mod Comparisons
+pub mod Said
+pub mod Members

@@ -8,9 +8,12 @@
 //! The definitions are in `specs/`, in the order of its `Lib.antt`.
 #![tactic(auto)]
 
+mod build;
 mod call;
 mod comparison;
 mod fault;
+mod matching;
+mod members;
 mod operand;
 mod operators;
 mod place;
