@@ -17,3 +17,6 @@ pub mod Limits
 pub mod Statements
 pub mod Parsed
 pub mod OneOutcome
+pub mod SaidWays
+pub mod MatchingWays
+pub mod MemberWays

@@ -4,7 +4,7 @@ use Rattle.mc_base.specs.declared.span.Span.{Span}
 use Rattle.mc_token.specs.declared.lexeme.Token.{Token}
 use Rattle.mc_ast.specs.Spans.{from_to, span_from, span_of}
 
-over : (s x : Span) (g : List Token) → from_to s (span_from x g) ≡ span_from (from_to s x) g
+pub over : (s x : Span) (g : List Token) → from_to s (span_from x g) ≡ span_from (from_to s x) g
 over s x [] = refl
 over s x (u ∷ g) = refl
 

@@ -6,3 +6,5 @@ pub mod Signs
 pub mod Comparisons
 pub mod Clauses
 pub mod Outcome
+pub mod Said
+pub mod Members

@@ -68,3 +68,10 @@ pub record IsFolded {X : Type 0} (after : Ahead (Admitted Class)) (look : ℕ) (
   pub done : Done language after look (at below more) tokens rest (value links)
   pub folded : last ≡ fold first links
   pub whole : last.extent ≡ span_from first.extent done.front
+
+-- The rule has read the tokens up to the rest, behind others: what stood from `first` on now ends
+-- at the end of `last`.
+pub record IsPut (after : Ahead (Admitted Class)) (look : ℕ) (r : Rule) (below : ℕ)
+    (tokens rest : List Token) (value : Value) (first last : Span) : Type 0 where
+  pub done : Done language after look (at below r) tokens rest value
+  pub whole : last ≡ span_from first done.front

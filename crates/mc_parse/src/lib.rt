@@ -11,11 +11,14 @@
 //! The definitions are in `specs/`, in the order of its `Lib.antt`.
 #![tactic(auto)]
 
+mod build;
 mod call;
 mod clauses;
 mod comparison;
 mod fault;
 mod laws;
+mod matching;
+mod members;
 mod operand;
 mod operators;
 mod parser;

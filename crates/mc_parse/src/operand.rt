@@ -45,6 +45,13 @@ pub(crate) fn instead(_operand: Operand, fault: Fault) -> Fault
     fault
 }
 
+/// Lets two operands go for the fault in their place.
+pub(crate) fn instead_of_two(_operand: Operand, _other: Operand, fault: Fault) -> Fault
+    ensures { result ≡ fault }
+{
+    fault
+}
+
 /// An operand and the collation behind it, which stands at `extent`.
 pub(crate) fn collated(
     alloc: Global,

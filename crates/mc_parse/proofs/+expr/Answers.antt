@@ -8,9 +8,12 @@ use Rattle.mc_parse.specs.Language.{behind, behind_at}
 use Rattle.mc_parse.specs.Read.{as_operand, IsFault}
 use Rattle.mc_parse.proofs.Ways.{link_shorter, begun}
 use Rattle.mc_parse.proofs.Folds.{folds_none}
-use Rattle.mc_parse.proofs.Listing.{lists_none, joins}
+use Rattle.mc_parse.proofs.Listing.{lists_none, joins, appends_none}
 use Rattle.mc_parse.proofs.OperatorWays.{coll_read, coll_first_missed, coll_more_missed, neg_coll_read, neg_coll_missed, minus_read, minus_missed, minus_deep, factor_read, factors_read, factor_missed, factor_shorter, prod_read, prod_first_missed, prod_more_missed, summand_read, summands_read, summand_missed, summand_shorter, sum_read, sum_first_missed, sum_more_missed}
 use Rattle.mc_parse.proofs.TruthWays.{or_read, or_none, or_first_missed, or_more_missed, or_link, or_listed, or_link_missed, and_read, and_none, and_first_missed, and_more_missed, and_link, and_listed, and_link_missed, xor_read, xor_none, xor_first_missed, xor_more_missed, xor_link, xors_read, xor_link_missed, not_pred_read, not_pred_missed, not_read, not_missed, not_deep}
+use Rattle.mc_parse.proofs.SaidWays.{sum_missed, comparing, compared_read, compared_missed, testing, matching, not_matching, listing, not_listing, ranging, not_ranging, just_read, denied_missed, said_missing}
+use Rattle.mc_parse.proofs.MatchingWays.{matched_read, matched_missed, ranged_read, ranged_first_missed, ranged_and_missed, ranged_last_missed, listed_read, listed_missed, listed_deep, listed_paren_missed}
+use Rattle.mc_parse.proofs.MemberWays.{comma_link, commas_read, comma_missed, members_read, members_first_missed, members_more_missed, members_close_missed}
 use Rattle.mc_parse.proofs.+expr.Goals as goal
 
 pub operators::coll-returns-in-Ok-more_collates-clause-ok : goal.operators::coll-returns-in-Ok-more_collates-clause-ok
@@ -272,3 +275,294 @@ predicate::not-returns-in-Ok-pred-clause-ok t c =
 pub predicate::not-returns-in-Err-pred-clause-err : goal.predicate::not-returns-in-Err-pred-clause-err
 predicate::not-returns-in-Err-pred-clause-err t c =
     not_pred_missed _ _ _ _ c.in-None.ensures c.in-Err-pred.ensures.err
+
+pub comparison::pred-sum-requires : goal.comparison::pred-sum-requires
+comparison::pred-sum-requires t c =
+    (omega arith, tt)
+
+pub comparison::pred-said-requires : goal.comparison::pred-said-requires
+comparison::pred-said-requires t c =
+    (omega arith, tt)
+
+pub comparison::pred-returns-in-Ok-said-clause-ok : goal.comparison::pred-returns-in-Ok-said-clause-ok
+comparison::pred-returns-in-Ok-said-clause-ok t c =
+    c.in-Ok-said.ensures.ok _ c.in-Ok.ensures.ok
+
+pub comparison::pred-returns-in-Err-said-clause-err : goal.comparison::pred-returns-in-Err-said-clause-err
+comparison::pred-returns-in-Err-said-clause-err t c =
+    c.in-Err-said.ensures.err _ c.in-Ok.ensures.ok
+
+pub comparison::pred-returns-in-Err-clause-err : goal.comparison::pred-returns-in-Err-clause-err
+comparison::pred-returns-in-Err-clause-err t c =
+    sum_missed _ _ _ _ c.in-Err.ensures.err
+
+pub comparison::said-compared-requires : goal.comparison::said-compared-requires
+comparison::said-compared-requires t c =
+    (omega arith, tt)
+
+pub comparison::said-denied-requires : goal.comparison::said-denied-requires
+comparison::said-denied-requires t c =
+    (omega arith, tt)
+
+pub comparison::said-affirmed-requires : goal.comparison::said-affirmed-requires
+comparison::said-affirmed-requires t c =
+    (omega arith, said_missing _ c.in-None.ensures c.in-None-keyword.ensures c.in-None-keyword-2.ensures)
+
+pub comparison::said-returns-in-Ok-clause-ok : goal.comparison::said-returns-in-Ok-clause-ok
+comparison::said-returns-in-Ok-clause-ok t c tokens o =
+    c.in-Ok.ensures.ok tokens (comparing _ _ _ _ _ _ _ o c.in-Some.ensures)
+
+pub comparison::said-returns-in-Err-clause-err : goal.comparison::said-returns-in-Err-clause-err
+comparison::said-returns-in-Err-clause-err t c tokens o =
+    c.in-Err.ensures.err tokens (comparing _ _ _ _ _ _ _ o c.in-Some.ensures)
+
+pub comparison::said-returns-in-Ok-tested-clause-ok : goal.comparison::said-returns-in-Ok-tested-clause-ok
+comparison::said-returns-in-Ok-tested-clause-ok t c tokens o =
+    c.in-Ok-tested.ensures.ok c.args.alias c.args.below tokens (testing _ _ _ _ _ _ o c.in-Some-keyword.ensures)
+
+pub comparison::said-returns-in-Err-tested-clause-err : goal.comparison::said-returns-in-Err-tested-clause-err
+comparison::said-returns-in-Err-tested-clause-err t c tokens o =
+    c.in-Err-tested.ensures.err c.args.alias c.args.below tokens (testing _ _ _ _ _ _ o c.in-Some-keyword.ensures)
+
+pub comparison::said-returns-in-Ok-denied-clause-ok : goal.comparison::said-returns-in-Ok-denied-clause-ok
+comparison::said-returns-in-Ok-denied-clause-ok t c tokens o =
+    c.in-Ok-denied.ensures.ok tokens _ o c.in-Some-keyword-2.ensures
+
+pub comparison::said-returns-in-Err-denied-clause-err : goal.comparison::said-returns-in-Err-denied-clause-err
+comparison::said-returns-in-Err-denied-clause-err t c tokens o =
+    c.in-Err-denied.ensures.err tokens _ o c.in-Some-keyword-2.ensures
+
+pub comparison::said-returns-in-Ok-affirmed-clause-ok : goal.comparison::said-returns-in-Ok-affirmed-clause-ok
+comparison::said-returns-in-Ok-affirmed-clause-ok t c tokens o =
+    c.in-Ok-affirmed.ensures.ok tokens o
+
+pub comparison::said-returns-in-Err-affirmed-clause-err : goal.comparison::said-returns-in-Err-affirmed-clause-err
+comparison::said-returns-in-Err-affirmed-clause-err t c tokens o =
+    c.in-Err-affirmed.ensures.err tokens o
+
+pub comparison::compared-sum-requires : goal.comparison::compared-sum-requires
+comparison::compared-sum-requires t c =
+    (omega arith, tt)
+
+pub comparison::compared-returns-in_ok-compare-in-Ok-clause-ok : goal.comparison::compared-returns-in_ok-compare-in-Ok-clause-ok
+comparison::compared-returns-in_ok-compare-in-Ok-clause-ok t c tokens p =
+    compared_read _ _ _ _ _ _ _ _ _ p c.in-Ok.ensures.ok c.in_ok-compare-in-Ok.ensures
+
+pub comparison::compared-returns-in-Err-clause-err : goal.comparison::compared-returns-in-Err-clause-err
+comparison::compared-returns-in-Err-clause-err t c tokens p =
+    subst (λ f. IsFault (behind_at c.args.alias rule.pred) rule.pred c.args.below tokens f)
+    (sym c.instead.ensures) (compared_missed _ _ _ _ _ _ _ p c.in-Err.ensures.err)
+
+pub comparison::denied-matched-requires : goal.comparison::denied-matched-requires
+comparison::denied-matched-requires t c =
+    (omega arith, tt)
+
+pub comparison::denied-listed-requires : goal.comparison::denied-listed-requires
+comparison::denied-listed-requires t c =
+    (omega arith, tt)
+
+pub comparison::denied-ranged-requires : goal.comparison::denied-ranged-requires
+comparison::denied-ranged-requires t c =
+    (omega arith, tt)
+
+pub comparison::denied-returns-in-Ok-clause-ok : goal.comparison::denied-returns-in-Ok-clause-ok
+comparison::denied-returns-in-Ok-clause-ok t c tokens at_word o n =
+    c.in-Ok.ensures.ok tokens (not_matching _ _ _ _ _ _ _ o n c.in-Some.ensures)
+
+pub comparison::denied-returns-in-Err-clause-err : goal.comparison::denied-returns-in-Err-clause-err
+comparison::denied-returns-in-Err-clause-err t c tokens at_word o n =
+    c.in-Err.ensures.err tokens (not_matching _ _ _ _ _ _ _ o n c.in-Some.ensures)
+
+pub comparison::denied-returns-in-Ok-listed-clause-ok : goal.comparison::denied-returns-in-Ok-listed-clause-ok
+comparison::denied-returns-in-Ok-listed-clause-ok t c tokens at_word o n =
+    c.in-Ok-listed.ensures.ok tokens (not_listing _ _ _ _ _ _ _ o n c.in-Some-keyword.ensures)
+
+pub comparison::denied-returns-in-Err-listed-clause-err : goal.comparison::denied-returns-in-Err-listed-clause-err
+comparison::denied-returns-in-Err-listed-clause-err t c tokens at_word o n =
+    c.in-Err-listed.ensures.err tokens (not_listing _ _ _ _ _ _ _ o n c.in-Some-keyword.ensures)
+
+pub comparison::denied-returns-in-Ok-ranged-clause-ok : goal.comparison::denied-returns-in-Ok-ranged-clause-ok
+comparison::denied-returns-in-Ok-ranged-clause-ok t c tokens at_word o n =
+    c.in-Ok-ranged.ensures.ok tokens (not_ranging _ _ _ _ _ _ _ o n c.in-Some-keyword-2.ensures)
+
+pub comparison::denied-returns-in-Err-ranged-clause-err : goal.comparison::denied-returns-in-Err-ranged-clause-err
+comparison::denied-returns-in-Err-ranged-clause-err t c tokens at_word o n =
+    c.in-Err-ranged.ensures.err tokens (not_ranging _ _ _ _ _ _ _ o n c.in-Some-keyword-2.ensures)
+
+pub comparison::affirmed-matched-requires : goal.comparison::affirmed-matched-requires
+comparison::affirmed-matched-requires t c =
+    (omega arith, tt)
+
+pub comparison::affirmed-listed-requires : goal.comparison::affirmed-listed-requires
+comparison::affirmed-listed-requires t c =
+    (omega arith, tt)
+
+pub comparison::affirmed-ranged-requires : goal.comparison::affirmed-ranged-requires
+comparison::affirmed-ranged-requires t c =
+    (omega arith, tt)
+
+pub comparison::affirmed-returns-in-Ok-clause-ok : goal.comparison::affirmed-returns-in-Ok-clause-ok
+comparison::affirmed-returns-in-Ok-clause-ok t c tokens o =
+    c.in-Ok.ensures.ok tokens (matching _ _ _ _ _ _ o c.in-Some.ensures)
+
+pub comparison::affirmed-returns-in-Err-clause-err : goal.comparison::affirmed-returns-in-Err-clause-err
+comparison::affirmed-returns-in-Err-clause-err t c tokens o =
+    c.in-Err.ensures.err tokens (matching _ _ _ _ _ _ o c.in-Some.ensures)
+
+pub comparison::affirmed-returns-in-Ok-listed-clause-ok : goal.comparison::affirmed-returns-in-Ok-listed-clause-ok
+comparison::affirmed-returns-in-Ok-listed-clause-ok t c tokens o =
+    c.in-Ok-listed.ensures.ok tokens (listing _ _ _ _ _ _ o c.in-Some-keyword.ensures)
+
+pub comparison::affirmed-returns-in-Err-listed-clause-err : goal.comparison::affirmed-returns-in-Err-listed-clause-err
+comparison::affirmed-returns-in-Err-listed-clause-err t c tokens o =
+    c.in-Err-listed.ensures.err tokens (listing _ _ _ _ _ _ o c.in-Some-keyword.ensures)
+
+pub comparison::affirmed-returns-in-Ok-ranged-clause-ok : goal.comparison::affirmed-returns-in-Ok-ranged-clause-ok
+comparison::affirmed-returns-in-Ok-ranged-clause-ok t c tokens o =
+    c.in-Ok-ranged.ensures.ok tokens (ranging _ _ _ _ _ _ o c.in-Some-keyword-2.ensures)
+
+pub comparison::affirmed-returns-in-Err-ranged-clause-err : goal.comparison::affirmed-returns-in-Err-ranged-clause-err
+comparison::affirmed-returns-in-Err-ranged-clause-err t c tokens o =
+    c.in-Err-ranged.ensures.err tokens (ranging _ _ _ _ _ _ o c.in-Some-keyword-2.ensures)
+
+pub comparison::denied-returns-in-None-keyword-2-clause-err : goal.comparison::denied-returns-in-None-keyword-2-clause-err
+comparison::denied-returns-in-None-keyword-2-clause-err t c tokens at_word o n =
+    subst (λ f. IsFault (behind_at c.args.alias rule.pred) rule.pred c.args.below tokens f)
+    (sym c.instead.ensures) (denied_missed _ _ _ _ _ _ _ o n c.in-None.ensures c.in-None-keyword.ensures c.in-None-keyword-2.ensures c.left.ensures)
+
+pub comparison::affirmed-returns-in-None-keyword-2-clause-ok : goal.comparison::affirmed-returns-in-None-keyword-2-clause-ok
+comparison::affirmed-returns-in-None-keyword-2-clause-ok t c tokens o =
+    just_read _ _ _ _ _ o c.requires c.in-None.ensures c.in-None-keyword.ensures c.in-None-keyword-2.ensures
+
+pub matching::matched-sum-requires : goal.matching::matched-sum-requires
+matching::matched-sum-requires t c =
+    (omega arith, tt)
+
+pub matching::matched-returns-in-Ok-escaped-clause-ok : goal.matching::matched-returns-in-Ok-escaped-clause-ok
+matching::matched-returns-in-Ok-escaped-clause-ok t c tokens p =
+    c.in-Ok-escaped.ensures.ok c.args.below tokens (matched_read _ _ _ _ _ _ _ _ p c.in-Ok.ensures.ok)
+
+pub matching::matched-returns-in-Err-escaped-clause-err : goal.matching::matched-returns-in-Err-escaped-clause-err
+matching::matched-returns-in-Err-escaped-clause-err t c tokens p =
+    c.in-Err-escaped.ensures.err c.args.below tokens (matched_read _ _ _ _ _ _ _ _ p c.in-Ok.ensures.ok)
+
+pub matching::matched-returns-in-Err-clause-err : goal.matching::matched-returns-in-Err-clause-err
+matching::matched-returns-in-Err-clause-err t c tokens p =
+    subst (λ f. IsFault (behind_at c.args.alias rule.pred) rule.pred c.args.below tokens f)
+    (sym c.instead.ensures) (matched_missed _ _ _ _ _ _ _ p c.in-Err.ensures.err)
+
+pub matching::listed-members-requires : goal.matching::listed-members-requires
+matching::listed-members-requires t c =
+    (omega arith, tt)
+
+pub matching::listed-overflow_sub-below : goal.matching::listed-overflow_sub-below
+matching::listed-overflow_sub-below t c =
+    omega arith
+
+pub matching::listed-returns-then-below-eq0-clause-err : goal.matching::listed-returns-then-below-eq0-clause-err
+matching::listed-returns-then-below-eq0-clause-err t c tokens p =
+    subst (λ f. IsFault (behind_at c.args.alias rule.pred) rule.pred c.args.below tokens f)
+    (sym c.instead.ensures) (listed_deep _ _ _ _ _ _ _ _ (omega arith) p c.in-Some.ensures c.left.ensures)
+
+pub matching::listed-returns-in_ok-member-in-Ok-clause-ok : goal.matching::listed-returns-in_ok-member-in-Ok-clause-ok
+matching::listed-returns-in_ok-member-in-Ok-clause-ok t c tokens p =
+    listed_read _ _ (c.args.below - 1) _ _ _ _ _ _ _ _ _ (omega arith) p c.in-Some.ensures c.in-Ok.ensures.ok c.in_ok-member-in-Ok.ensures
+
+pub matching::listed-returns-in-Err-clause-err : goal.matching::listed-returns-in-Err-clause-err
+matching::listed-returns-in-Err-clause-err t c tokens p =
+    subst (λ f. IsFault (behind_at c.args.alias rule.pred) rule.pred c.args.below tokens f)
+    (sym c.instead-in-Err.ensures) (listed_missed _ _ (c.args.below - 1) _ _ _ _ _ _ (omega arith) p c.in-Some.ensures c.in-Err.ensures.err)
+
+pub matching::listed-returns-in-None-clause-err : goal.matching::listed-returns-in-None-clause-err
+matching::listed-returns-in-None-clause-err t c tokens p =
+    subst (λ f. IsFault (behind_at c.args.alias rule.pred) rule.pred c.args.below tokens f)
+    (sym c.instead-in-None.ensures) (listed_paren_missed _ _ _ _ _ _ _ p c.in-None.ensures c.left-in-None.ensures)
+
+pub matching::ranged-sum-requires : goal.matching::ranged-sum-requires
+matching::ranged-sum-requires t c =
+    (omega arith, tt)
+
+pub matching::ranged-sum-requires-in-Some : goal.matching::ranged-sum-requires-in-Some
+matching::ranged-sum-requires-in-Some t c =
+    (omega arith, tt)
+
+pub matching::ranged-returns-in_ok-between-in-Ok-sum-clause-ok : goal.matching::ranged-returns-in_ok-between-in-Ok-sum-clause-ok
+matching::ranged-returns-in_ok-between-in-Ok-sum-clause-ok t c tokens p =
+    ranged_read _ _ _ _ _ _ _ _ _ _ _ _ p c.in-Ok.ensures.ok c.in-Some.ensures c.in-Ok-sum.ensures.ok c.in_ok-between-in-Ok-sum.ensures
+
+pub matching::ranged-returns-in-Err-sum-clause-err : goal.matching::ranged-returns-in-Err-sum-clause-err
+matching::ranged-returns-in-Err-sum-clause-err t c tokens p =
+    subst (λ f. IsFault (behind_at c.args.alias rule.pred) rule.pred c.args.below tokens f)
+    (sym c.instead_of_two.ensures) (ranged_last_missed _ _ _ _ _ _ _ _ _ _ p c.in-Ok.ensures.ok c.in-Some.ensures c.in-Err-sum.ensures.err)
+
+pub matching::ranged-returns-in-None-clause-err : goal.matching::ranged-returns-in-None-clause-err
+matching::ranged-returns-in-None-clause-err t c tokens p =
+    subst (λ f. IsFault (behind_at c.args.alias rule.pred) rule.pred c.args.below tokens f)
+    (sym c.instead_of_two-in-None.ensures) (ranged_and_missed _ _ _ _ _ _ _ _ _ p c.in-Ok.ensures.ok c.in-None.ensures c.left.ensures)
+
+pub matching::ranged-returns-in-Err-clause-err : goal.matching::ranged-returns-in-Err-clause-err
+matching::ranged-returns-in-Err-clause-err t c tokens p =
+    subst (λ f. IsFault (behind_at c.args.alias rule.pred) rule.pred c.args.below tokens f)
+    (sym c.instead.ensures) (ranged_first_missed _ _ _ _ _ _ _ p c.in-Err.ensures.err)
+
+pub members::members-push_members-requires : goal.members::members-push_members-requires
+members::members-push_members-requires t c =
+    (omega arith, c.new-list.ensures)
+
+pub members::members-returns-in-Ok-clause-ok : goal.members::members-returns-in-Ok-clause-ok
+members::members-returns-in-Ok-clause-ok t c =
+    c.in-Ok.ensures.ok
+
+pub members::members-returns-clause-err : goal.members::members-returns-clause-err
+members::members-returns-clause-err t c =
+    c.in-Err.ensures.err
+
+pub members::push_members-or-requires : goal.members::push_members-or-requires
+members::push_members-or-requires t c =
+    (omega arith, tt)
+
+pub members::push_members-push_ors-requires : goal.members::push_members-push_ors-requires
+members::push_members-push_ors-requires t c =
+    (omega arith, tt)
+
+pub members::push_members-returns-in-Some-clause-ok : goal.members::push_members-returns-in-Some-clause-ok
+members::push_members-returns-in-Some-clause-ok t c =
+    members_read _ _ _ _ _ _ _ _ _ c.in-Ok.ensures.ok c.in-Ok-push_ors.ensures.ok
+    (first_of (search rules, grind (arith, common_steps))) c.in-Some.ensures c.span.ensures
+
+pub members::push_members-returns-in-None-clause-err : goal.members::push_members-returns-in-None-clause-err
+members::push_members-returns-in-None-clause-err t c =
+    members_close_missed _ _ _ _ _ _ _ _ c.in-Ok.ensures.ok c.in-Ok-push_ors.ensures.ok c.in-None.ensures c.left.ensures
+
+pub members::push_members-returns-in-Err-push_ors-clause-err : goal.members::push_members-returns-in-Err-push_ors-clause-err
+members::push_members-returns-in-Err-push_ors-clause-err t c =
+    members_more_missed _ _ _ _ _ c.in-Ok.ensures.ok c.in-Err-push_ors.ensures.err
+
+pub members::push_members-returns-in-Err-clause-err : goal.members::push_members-returns-in-Err-clause-err
+members::push_members-returns-in-Err-clause-err t c =
+    members_first_missed _ _ _ c.in-Err.ensures.err
+
+pub members::push_ors-or-requires : goal.members::push_ors-or-requires
+members::push_ors-or-requires t c =
+    (omega arith, tt)
+
+pub members::push_ors-loop-behind-init : goal.members::push_ors-loop-behind-init
+members::push_ors-loop-behind-init t c =
+    appends_none
+
+pub members::push_ors-loop-behind-smaller : goal.members::push_ors-loop-behind-smaller
+members::push_ors-loop-behind-smaller t c =
+    link_shorter c.in-Some.ensures c.in-Ok.ensures.ok
+
+pub members::push_ors-loop-behind-preserved : goal.members::push_ors-loop-behind-preserved
+members::push_ors-loop-behind-preserved t c =
+    comma_link _ _ _ _ _ _ _ _ _ c.loop-behind.invariant c.in-Some.ensures c.in-Ok.ensures.ok
+    c.in_ok-push-in-Ok.ensures.ok
+
+pub members::push_ors-returns-in-Err-clause-err : goal.members::push_ors-returns-in-Err-clause-err
+members::push_ors-returns-in-Err-clause-err t c =
+    comma_missed _ _ _ _ _ _ _ c.loop-behind.invariant c.in-Some.ensures c.in-Err.ensures.err
+
+pub members::push_ors-returns-clause-ok : goal.members::push_ors-returns-clause-ok
+members::push_ors-returns-clause-ok t c =
+    commas_read _ _ _ _ _ c.loop-behind.invariant c.in_default.ensures

@@ -2,6 +2,7 @@ use Rattle.std.proofs.Common.{◌+◌, ◌*◌, length}
 use Rattle.mc_parse.specs.Read.{as_operand}
 use Rattle.mc_parse.proofs.OperatorWays.{IsMultiplying, IsAdding}
 use Rattle.mc_parse.proofs.TruthWays.{IsOring, IsAnding, IsXoring}
+use Rattle.mc_parse.proofs.MemberWays.{IsCommaing}
 use Rattle.mc_parse.proofs.+expr.Given as goal
 
 abbrev pub decreases-call::call : goal.decreases-call::call
@@ -97,3 +98,40 @@ invariant-predicate::push_nots-loop-behind l =
 
 abbrev pub decreases-predicate::push_nots-loop-behind : goal.decreases-predicate::push_nots-loop-behind
 decreases-predicate::push_nots-loop-behind l = length l.place.tokens.now
+
+abbrev pub decreases-comparison::affirmed : goal.decreases-comparison::affirmed
+decreases-comparison::affirmed l = 64 * l.below + 45
+
+abbrev pub decreases-comparison::compared : goal.decreases-comparison::compared
+decreases-comparison::compared l = 64 * l.below + 40
+
+abbrev pub decreases-comparison::denied : goal.decreases-comparison::denied
+decreases-comparison::denied l = 64 * l.below + 44
+
+abbrev pub decreases-comparison::said : goal.decreases-comparison::said
+decreases-comparison::said l = 64 * l.below + 46
+
+abbrev pub decreases-matching::listed : goal.decreases-matching::listed
+decreases-matching::listed l = 64 * l.below + 39
+
+abbrev pub decreases-matching::matched : goal.decreases-matching::matched
+decreases-matching::matched l = 64 * l.below + 40
+
+abbrev pub decreases-matching::ranged : goal.decreases-matching::ranged
+decreases-matching::ranged l = 64 * l.below + 40
+
+abbrev pub decreases-members::members : goal.decreases-members::members
+decreases-members::members l = 64 * l.below + 63
+
+abbrev pub decreases-members::push_members : goal.decreases-members::push_members
+decreases-members::push_members l = 64 * l.below + 62
+
+abbrev pub decreases-members::push_ors : goal.decreases-members::push_ors
+decreases-members::push_ors l = 64 * l.below + 61
+
+abbrev pub invariant-members::push_ors-loop-behind : goal.invariant-members::push_ors-loop-behind
+invariant-members::push_ors-loop-behind l =
+    IsCommaing l.below l.fn.place.tokens.now l.place.tokens.now l.fn.list l.list
+
+abbrev pub decreases-members::push_ors-loop-behind : goal.decreases-members::push_ors-loop-behind
+decreases-members::push_ors-loop-behind l = length l.place.tokens.now
