@@ -1,9 +1,11 @@
 pub mod TokenKinds
+pub mod CallKinds
 pub mod Spans
 pub mod Ways
 pub mod Folds
 pub mod Listing
 pub mod Groups
 pub mod NameWays
+pub mod StringWays
 pub mod OperatorWays
 pub mod TruthWays
