@@ -1,5 +1,5 @@
 -- The ways through the functions that read strings.
-use Rattle.std.proofs.Common.{◌≡◌, refl, sym, ap, ◌∙◌, subst, ℕ, ◌+◌, ◌<◌, ◌≤◌, Bool, true, false, not, ◌&&◌, List, [], ◌∷◌, ◌++◌, IsTrue, Option, Some, None, length, drop, append_assoc, append-nil, arith}
+use Rattle.std.proofs.Common.{◌≡◌, refl, sym, ap, ◌∙◌, subst, ℕ, suc, ◌+◌, ◌<◌, ◌≤◌, Bool, true, false, not, ◌&&◌, List, [], ◌∷◌, ◌++◌, IsTrue, Option, Some, None, length, drop, append_assoc, append-nil, arith}
 use Rattle.mc_base.specs.declared.span.Span.{Span}
 use Rattle.mc_token.specs.declared.lexeme.Lexeme.{Lexeme}
 use Rattle.mc_token.specs.declared.lexeme.Lexeme.TheVariants as lexeme
@@ -96,7 +96,7 @@ strs_read below tokens rest first now from to p h = ended (choose language sound
     (sees_missing (str ∷ []) rest (both_missing _ _ h refl)))
   where
     ended : Inside language (behind rule.more_strs) 1 (at below rule.more_strs)
-        (record { alternative = record { what = rule.no_more_strs; room = 1 + below }; left = [] } ∷ [])
+        (record { alternative = record { what = rule.no_more_strs; room = suc below }; left = [] } ∷ [])
         [] rest [] rest
         → IsJoined below tokens rest first now from to
     ended q = record {
@@ -205,7 +205,7 @@ string_dropped below tokens fault e =
 
 -- A word is of the classes that have words.
 abbrev pub is_worded : Class → Bool
-is_worded (word text) = true
+is_worded (word said) = true
 is_worded name = true
 is_worded called = true
 is_worded called_otherwise = true
@@ -218,7 +218,7 @@ may_be_worded (Some k) = is_worded k.class
 
 class_worded : (k : Class) (w : List ℕ) → IsTrue (is_lexeme_of k (lexeme.Word w))
     → IsTrue (is_worded k)
-class_worded (word text) w m = refl
+class_worded (word said) w m = refl
 class_worded name w m = refl
 class_worded called w m = refl
 class_worded called_otherwise w m = refl
@@ -238,10 +238,11 @@ sees_word s w ts = record {
     lets None m = cc
     lets (Some k) m = class_worded k.class w m
 
-both_next : (b : Bool) → IsTrue b
-    → IsTrue (elim b [ true ↦ elim b [ true ↦ true | false ↦ false ] | false ↦ false ])
-both_next true h = refl
-both_next false h = cc
+both_next : (a b : Bool) → IsTrue a → IsTrue b
+    → IsTrue (elim a [ true ↦ elim b [ true ↦ true | false ↦ false ] | false ↦ false ])
+both_next true true h k = refl
+both_next true false h k = cc
+both_next false b h k = cc
 
 -- An introducer that is next.
 pub record IsIntro (tokens rest : List Token) (w : List ℕ) : Type 0 where
@@ -282,7 +283,7 @@ intro_here below s i s' w v u t e h o =
     (from_to s (span_from s' o.done.front))) (sym o.joined)
     (is_read (read_rule language sound (take_token language sound
     (look language sound (take_token language sound (choose language sound (sees_word s i _))
-    (both_next (is_intro i) h)) (sees_next language sound _)) refl) o.done refl refl (omega arith))
+    (both_next (is_intro i) (is_intro i) h h)) (sees_next language sound _)) refl) o.done refl refl (omega arith))
     refl))
 
 pub intro_read : (below : ℕ) (tokens r v u : List Token) (i w set t : List ℕ) (s e : Span) (x : Found)
@@ -311,7 +312,7 @@ unfolding behind
 intro_hex_here below s i s' w v h =
     is_read (widen language sound (take_token language sound
     (look language sound (take_token language sound (choose language sound (sees_word s i _))
-    (both_next (is_intro i) h)) (sees_next language sound _)) refl) (omega arith)) refl
+    (both_next (is_intro i) (is_intro i) h h)) (sees_next language sound _)) refl) (omega arith)) refl
 
 pub intro_hex_read : (below : ℕ) (tokens r v : List Token) (i w set t : List ℕ) (s : Span) (x : Found)
     → IsTextOf intro tokens r i → IsNext (lexeme.Hex w) r v
@@ -338,7 +339,7 @@ intro_missed_here : (below : ℕ) (s : Span) (i : List ℕ) (v : List Token) →
 unfolding behind
 intro_missed_here below s i v h a b =
     is_missed (take_token language sound (choose language sound (sees_word s i _))
-    (both_next (is_intro i) h))
+    (both_next (is_intro i) (is_intro i) h h))
     (sees_missing (str ∷ hex ∷ []) v (both_missing _ _ a (both_missing _ _ b refl))) refl (omega arith)
 
 pub intro_missed : (below : ℕ) (tokens r : List Token) (i : List ℕ) (left : ℕ)
