@@ -9,3 +9,6 @@ pub mod NameWays
 pub mod StringWays
 pub mod OperatorWays
 pub mod TruthWays
+pub mod CallSteps
+pub mod CallWays
+pub mod ArgumentWays

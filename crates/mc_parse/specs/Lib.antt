@@ -5,3 +5,4 @@ pub mod Lists
 pub mod Strings
 pub mod Signs
 pub mod Comparisons
+pub mod Calls

@@ -8,7 +8,10 @@
 //! The definitions are in `specs/`, in the order of its `Lib.antt`.
 #![tactic(auto)]
 
+mod arguments;
 mod call;
+mod call_convert;
+mod call_plain;
 mod comparison;
 mod fault;
 mod operand;
