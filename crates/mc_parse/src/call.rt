@@ -17,6 +17,7 @@ ghost use Rattle.mc_parse.specs.Calls.{
   IsCallFault,
 };
 
+use crate::call_cast::cast;
 use crate::call_convert::convert;
 use crate::call_plain::{count, plain};
 use crate::fault::Fault;
@@ -98,6 +99,10 @@ fn by_word<'a>(
 {
     match kind {
         CallWord::Convert => match convert(alloc, below, word, place) {
+            Ok((operand, rest)) => Ok((operand, rest)),
+            Err(fault) => Err(fault),
+        },
+        CallWord::Cast => match cast(alloc, below, word, place) {
             Ok((operand, rest)) => Ok((operand, rest)),
             Err(fault) => Err(fault),
         },

@@ -10,6 +10,7 @@
 
 mod arguments;
 mod call;
+mod call_cast;
 mod call_convert;
 mod call_plain;
 mod comparison;

@@ -16,6 +16,8 @@ use Rattle.mc_parse.specs.Calls.{IsCallFault}
 use Rattle.mc_parse.proofs.CallSteps.{call_found}
 use Rattle.mc_parse.proofs.CallWays.{call_missed, call_unopened, call_deep, call_again, call_fails, opened_convert, opened_count, opened_other, convert_operand, convert_missed, star_read, star_unclosed, distinct_next, count_plain, distinct_read, distinct_missed, distinct_unclosed, empty_read, first_missed, first_read, single_read, not_single}
 use Rattle.mc_parse.proofs.ArgumentWays.{ors_none, ors_link, ors_shorter, ors_missed, ors_all, or_pushed, comma_missed, second_missed, others_missed, args_unclosed, args_read}
+use Rattle.mc_parse.proofs.CallWays.{opened_cast}
+use Rattle.mc_parse.proofs.CastWays.{cast_operand, cast_missed}
 use Rattle.mc_parse.proofs.+expr.Goals as goal
 
 pub operators::coll-returns-in-Ok-more_collates-clause-ok : goal.operators::coll-returns-in-Ok-more_collates-clause-ok
@@ -429,3 +431,19 @@ arguments::more_args-returns-in-Err-more_ors-clause-err t c name x p =
 pub arguments::more_args-returns-in-Err-clause-err : goal.arguments::more_args-returns-in-Err-clause-err
 arguments::more_args-returns-in-Err-clause-err t c name x p =
     second_missed c.in-Some.ensures c.in-Err.ensures.err p
+
+pub call::by_word-cast-requires : goal.call::by_word-cast-requires
+call::by_word-cast-requires t c = (omega arith, opened_cast c.in-Cast.is c.requires)
+
+pub call_cast::cast-returns-in_ok-cast_as-in-Ok-cast_target-clause-ok : goal.call_cast::cast-returns-in_ok-cast_as-in-Ok-cast_target-clause-ok
+call_cast::cast-returns-in_ok-cast_as-in-Ok-cast_target-clause-ok t c =
+    call_found _ (c.in-Ok-cast_target.ensures.ok _ _ (cast_operand c.requires c.in-Ok.ensures.ok))
+    c.in_ok-cast_as-in-Ok-cast_target.ensures
+
+pub call_cast::cast-returns-in-Err-cast_target-clause-err : goal.call_cast::cast-returns-in-Err-cast_target-clause-err
+call_cast::cast-returns-in-Err-cast_target-clause-err t c =
+    subst (λ f. IsCallFault c.args.below c.args.word.tokens.now f) (sym c.instead.ensures)
+    (c.in-Err-cast_target.ensures.err _ _ (cast_operand c.requires c.in-Ok.ensures.ok))
+
+pub call_cast::cast-returns-in-Err-clause-err : goal.call_cast::cast-returns-in-Err-clause-err
+call_cast::cast-returns-in-Err-clause-err t c = cast_missed c.requires c.in-Err.ensures.err

@@ -135,3 +135,6 @@ invariant-arguments::more_ors-loop-behind l =
 
 abbrev pub decreases-arguments::more_ors-loop-behind : goal.decreases-arguments::more_ors-loop-behind
 decreases-arguments::more_ors-loop-behind l = length l.place.tokens.now
+
+abbrev pub decreases-call_cast::cast : goal.decreases-call_cast::cast
+decreases-call_cast::cast l = 64 * l.below + 62
