@@ -1,10 +1,12 @@
 pub mod TokenKinds
+pub mod CallKinds
 pub mod Spans
 pub mod Ways
 pub mod Folds
 pub mod Listing
 pub mod Groups
 pub mod NameWays
+pub mod StringWays
 pub mod OperatorWays
 pub mod TruthWays
 pub mod ClauseSteps
@@ -20,3 +22,7 @@ pub mod OneOutcome
 pub mod SaidWays
 pub mod MatchingWays
 pub mod MemberWays
+pub mod CallSteps
+pub mod CallWays
+pub mod ArgumentWays
+pub mod CastWays

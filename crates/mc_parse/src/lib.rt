@@ -11,8 +11,12 @@
 //! The definitions are in `specs/`, in the order of its `Lib.antt`.
 #![tactic(auto)]
 
+mod arguments;
 mod build;
 mod call;
+mod call_cast;
+mod call_convert;
+mod call_plain;
 mod clauses;
 mod comparison;
 mod fault;
@@ -26,6 +30,7 @@ mod place;
 mod predicate;
 mod primary;
 mod statement;
+mod strings;
 
 pub use fault::ParseFault;
 pub use laws::outcomes_are_unique;

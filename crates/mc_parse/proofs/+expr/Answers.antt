@@ -1,6 +1,7 @@
-use Rattle.std.proofs.Common.{◌-◌, refl, sym, subst, arith, rules}
+use Rattle.std.proofs.Common.{◌-◌, refl, sym, ap, ◌∙◌, [], ◌∷◌, ◌++◌, subst, arith, rules}
 use Rattle.std.specs.Prelude.{codes}
 use Rattle.std.proofs.lemmas.Grind.{common_steps}
+use Rattle.mc_ast.specs.Grouping.{whole}
 use Rattle.mc_ast.specs.declared.expr.Form.TheVariants as form
 use Rattle.mc_sql.specs.Classes as class
 use Rattle.mc_sql.specs.Rules as rule
@@ -14,6 +15,12 @@ use Rattle.mc_parse.proofs.TruthWays.{or_read, or_none, or_first_missed, or_more
 use Rattle.mc_parse.proofs.SaidWays.{sum_missed, comparing, compared_read, compared_missed, testing, matching, not_matching, listing, not_listing, ranging, not_ranging, just_read, denied_missed, said_missing}
 use Rattle.mc_parse.proofs.MatchingWays.{matched_read, matched_missed, ranged_read, ranged_first_missed, ranged_and_missed, ranged_last_missed, listed_read, listed_missed, listed_deep, listed_paren_missed}
 use Rattle.mc_parse.proofs.MemberWays.{comma_link, commas_read, comma_missed, members_read, members_first_missed, members_more_missed, members_close_missed}
+use Rattle.mc_parse.specs.Calls.{IsCallFault}
+use Rattle.mc_parse.proofs.CallSteps.{call_found}
+use Rattle.mc_parse.proofs.CallWays.{call_missed, call_unopened, call_deep, call_again, call_fails, opened_convert, opened_count, opened_other, convert_operand, convert_missed, star_read, star_unclosed, distinct_next, count_plain, distinct_read, distinct_missed, distinct_unclosed, empty_read, first_missed, first_read, single_read, not_single}
+use Rattle.mc_parse.proofs.ArgumentWays.{ors_none, ors_link, ors_shorter, ors_missed, ors_all, or_pushed, comma_missed as argument_comma_missed, second_missed, others_missed, args_unclosed, args_read}
+use Rattle.mc_parse.proofs.CallWays.{opened_cast}
+use Rattle.mc_parse.proofs.CastWays.{cast_operand, cast_missed}
 use Rattle.mc_parse.proofs.+expr.Goals as goal
 
 pub operators::coll-returns-in-Ok-more_collates-clause-ok : goal.operators::coll-returns-in-Ok-more_collates-clause-ok
@@ -566,3 +573,170 @@ members::push_ors-returns-in-Err-clause-err t c =
 pub members::push_ors-returns-clause-ok : goal.members::push_ors-returns-clause-ok
 members::push_ors-returns-clause-ok t c =
     commas_read _ _ _ _ _ c.loop-behind.invariant c.in_default.ensures
+pub call::call-returns-in_default-clause-err : goal.call::call-returns-in_default-clause-err
+call::call-returns-in_default-clause-err t c =
+    call_missed _ _ _ c.in_default.ensures.0 c.in_default.ensures.1 c.left.ensures
+
+pub call::call-returns-in_default-mark-clause-err : goal.call::call-returns-in_default-mark-clause-err
+call::call-returns-in_default-mark-clause-err t c =
+    call_unopened _ _ _ _ _ _ c.in-Some.ensures c.in_default-mark.ensures c.left-in_default-mark.ensures
+
+pub call::call-returns-then-below-eq0-clause-err : goal.call::call-returns-then-below-eq0-clause-err
+call::call-returns-then-below-eq0-clause-err t c =
+    call_deep _ _ _ _ _ _ _ (omega arith) c.in-Some.ensures c.in-Some-mark.ensures
+    c.left-then-below-eq0.ensures
+
+pub call::call-by_word-requires : goal.call::call-by_word-requires
+call::call-by_word-requires t c =
+    (omega arith, record { between = _; begins = c.in-Some.ensures; opens = c.in-Some-mark.ensures })
+
+pub call::call-returns-in-Ok-clause-ok : goal.call::call-returns-in-Ok-clause-ok
+call::call-returns-in-Ok-clause-ok t c = call_again (omega arith) c.in-Ok.ensures.ok
+
+pub call::call-returns-in-Err-clause-err : goal.call::call-returns-in-Err-clause-err
+call::call-returns-in-Err-clause-err t c = call_fails (omega arith) c.in-Err.ensures.err
+
+pub call::by_word-convert-requires : goal.call::by_word-convert-requires
+call::by_word-convert-requires t c = (omega arith, opened_convert c.in-Convert.is c.requires)
+
+pub call::by_word-count-requires : goal.call::by_word-count-requires
+call::by_word-count-requires t c = (omega arith, opened_count c.in-Count.is c.requires)
+
+pub call::by_word-plain-requires : goal.call::by_word-plain-requires
+call::by_word-plain-requires t c = (omega arith, opened_other c.in-Other.is c.requires)
+
+pub call_convert::convert-returns-in_ok-converted-in-Ok-using_set-clause-ok : goal.call_convert::convert-returns-in_ok-converted-in-Ok-using_set-clause-ok
+call_convert::convert-returns-in_ok-converted-in-Ok-using_set-clause-ok t c =
+    call_found _ (c.in-Ok-using_set.ensures.ok _ _ (convert_operand c.requires c.in-Ok.ensures.ok))
+    c.in_ok-converted-in-Ok-using_set.ensures
+
+pub call_convert::convert-returns-in-Err-using_set-clause-err : goal.call_convert::convert-returns-in-Err-using_set-clause-err
+call_convert::convert-returns-in-Err-using_set-clause-err t c =
+    subst (λ f. IsCallFault c.args.below c.args.word.tokens.now f) (sym c.instead.ensures)
+    (c.in-Err-using_set.ensures.err _ _ (convert_operand c.requires c.in-Ok.ensures.ok))
+
+pub call_convert::convert-returns-in-Err-clause-err : goal.call_convert::convert-returns-in-Err-clause-err
+call_convert::convert-returns-in-Err-clause-err t c = convert_missed c.requires c.in-Err.ensures.err
+
+pub call_plain::count_distinct-returns-in_ok-counted-in-Ok-closed-clause-ok : goal.call_plain::count_distinct-returns-in_ok-counted-in-Ok-closed-clause-ok
+call_plain::count_distinct-returns-in_ok-counted-in-Ok-closed-clause-ok t c =
+    call_found _ (distinct_read c.requires.before c.requires.distinct c.in-Ok.ensures.ok
+    c.in-Ok-closed.ensures.ok) c.in_ok-counted-in-Ok-closed.ensures
+
+pub call_plain::count_distinct-returns-in-Err-closed-clause-err : goal.call_plain::count_distinct-returns-in-Err-closed-clause-err
+call_plain::count_distinct-returns-in-Err-closed-clause-err t c =
+    subst (λ f. IsCallFault c.args.below c.args.word.tokens.now f) (sym c.instead.ensures)
+    (distinct_unclosed c.requires.before c.requires.distinct c.in-Ok.ensures.ok
+    c.in-Err-closed.ensures.err)
+
+pub call_plain::count_distinct-returns-in-Err-clause-err : goal.call_plain::count_distinct-returns-in-Err-clause-err
+call_plain::count_distinct-returns-in-Err-clause-err t c =
+    distinct_missed c.requires.before c.requires.distinct c.in-Err.ensures.err
+
+pub call_plain::count-returns-in-Ok-clause-ok : goal.call_plain::count-returns-in-Ok-clause-ok
+call_plain::count-returns-in-Ok-clause-ok t c =
+    call_found _ (star_read c.requires c.in-Some.ensures c.in-Ok.ensures.ok) c.whole.ensures
+
+pub call_plain::count-returns-in-Err-clause-err : goal.call_plain::count-returns-in-Err-clause-err
+call_plain::count-returns-in-Err-clause-err t c =
+    star_unclosed c.requires c.in-Some.ensures c.in-Err.ensures.err
+
+pub call_plain::count-count_distinct-requires : goal.call_plain::count-count_distinct-requires
+call_plain::count-count_distinct-requires t c =
+    (omega arith, (distinct_next c.requires c.in-Some-keyword.ensures, c.in-Some-keyword.ensures))
+
+pub call_plain::count-plain-requires : goal.call_plain::count-plain-requires
+call_plain::count-plain-requires t c =
+    (omega arith, count_plain c.requires c.in_default.ensures c.in_default-keyword.ensures)
+
+pub call_plain::plain-returns-in-Ok-clause-ok : goal.call_plain::plain-returns-in-Ok-clause-ok
+call_plain::plain-returns-in-Ok-clause-ok t c =
+    call_found _ (empty_read c.requires c.in-Ok.ensures.ok)
+    (c.whole.ensures
+    ∙ ap (λ z. whole c.in-Ok.span (form.Call z c.new-args.result)) c.in_ok-name.ensures
+    ∙ ap (λ z. whole c.in-Ok.span (form.Call c.args.name.now z)) c.new-args.ensures)
+
+pub call_plain::plain-one_or_more-requires : goal.call_plain::plain-one_or_more-requires
+call_plain::plain-one_or_more-requires t c =
+    (omega arith, first_read c.requires c.in_default.ensures.err c.in-Ok-or.ensures.ok)
+
+pub call_plain::plain-returns-in-Err-clause-err : goal.call_plain::plain-returns-in-Err-clause-err
+call_plain::plain-returns-in-Err-clause-err t c =
+    first_missed c.requires c.in_default.ensures.err c.in-Err.ensures.err
+
+pub call_plain::one_or_more-returns-in-Ok-clause-ok : goal.call_plain::one_or_more-returns-in-Ok-clause-ok
+call_plain::one_or_more-returns-in-Ok-clause-ok t c =
+    call_found _ (single_read c.requires c.in-Ok.ensures.ok) c.in_ok-called_with.ensures
+
+pub call_plain::one_or_more-many-requires : goal.call_plain::one_or_more-many-requires
+call_plain::one_or_more-many-requires t c =
+    (omega arith, not_single c.requires c.in_default.ensures.err)
+
+pub call_plain::many-returns-in-Ok-clause-ok : goal.call_plain::many-returns-in-Ok-clause-ok
+call_plain::many-returns-in-Ok-clause-ok t c =
+    call_found _ (c.in-Ok.ensures.ok _ _ (c.in_ok-push.ensures.ok
+    ∙ ap (λ z. z ++ (c.args.first.expr ∷ [])) c.new-args.ensures) c.requires)
+    (c.whole.ensures
+    ∙ ap (λ z. whole c.in-Ok.span (form.Call z c.more_args.new.args)) c.in_ok-name-in-Ok.ensures)
+
+pub call_plain::many-returns-clause-err : goal.call_plain::many-returns-clause-err
+call_plain::many-returns-clause-err t c = c.in-Err.ensures.err _ _ c.requires
+
+pub arguments::push_or-returns-in_ok-push-in-Ok-clause-ok : goal.arguments::push_or-returns-in_ok-push-in-Ok-clause-ok
+arguments::push_or-returns-in_ok-push-in-Ok-clause-ok t c =
+    or_pushed _ c.in-Ok.ensures.ok c.in_ok-push-in-Ok.ensures.ok
+
+pub arguments::more_ors-loop-behind-init : goal.arguments::more_ors-loop-behind-init
+arguments::more_ors-loop-behind-init t c = ors_none
+
+pub arguments::more_ors-loop-behind-smaller : goal.arguments::more_ors-loop-behind-smaller
+arguments::more_ors-loop-behind-smaller t c = ors_shorter c.in-Some.ensures c.in-Ok.ensures.ok
+
+pub arguments::more_ors-loop-behind-preserved : goal.arguments::more_ors-loop-behind-preserved
+arguments::more_ors-loop-behind-preserved t c =
+    ors_link c.loop-behind.invariant c.in-Some.ensures c.in-Ok.ensures.ok
+
+pub arguments::more_ors-returns-in-Err-clause-err : goal.arguments::more_ors-returns-in-Err-clause-err
+arguments::more_ors-returns-in-Err-clause-err t c =
+    ors_missed c.loop-behind.invariant c.in-Some.ensures c.in-Err.ensures.err
+
+pub arguments::more_ors-returns-clause-ok : goal.arguments::more_ors-returns-clause-ok
+arguments::more_ors-returns-clause-ok t c = ors_all c.loop-behind.invariant c.in_default.ensures
+
+pub arguments::more_args-returns-in_default-clause-err : goal.arguments::more_args-returns-in_default-clause-err
+arguments::more_args-returns-in_default-clause-err t c name x p =
+    argument_comma_missed c.in_default.ensures c.left.ensures p
+
+pub arguments::more_args-returns-in-Ok-closed-clause-ok : goal.arguments::more_args-returns-in-Ok-closed-clause-ok
+arguments::more_args-returns-in-Ok-closed-clause-ok t c name x one p =
+    args_read c.in-Some.ensures c.in-Ok.ensures.ok c.in-Ok-more_ors.ensures.ok
+    c.in-Ok-closed.ensures.ok one p
+
+pub arguments::more_args-returns-in-Err-closed-clause-err : goal.arguments::more_args-returns-in-Err-closed-clause-err
+arguments::more_args-returns-in-Err-closed-clause-err t c name x p =
+    args_unclosed c.in-Some.ensures c.in-Ok.ensures.ok c.in-Ok-more_ors.ensures.ok
+    c.in-Err-closed.ensures.err p
+
+pub arguments::more_args-returns-in-Err-more_ors-clause-err : goal.arguments::more_args-returns-in-Err-more_ors-clause-err
+arguments::more_args-returns-in-Err-more_ors-clause-err t c name x p =
+    others_missed c.in-Some.ensures c.in-Ok.ensures.ok c.in-Err-more_ors.ensures.err p
+
+pub arguments::more_args-returns-in-Err-clause-err : goal.arguments::more_args-returns-in-Err-clause-err
+arguments::more_args-returns-in-Err-clause-err t c name x p =
+    second_missed c.in-Some.ensures c.in-Err.ensures.err p
+
+pub call::by_word-cast-requires : goal.call::by_word-cast-requires
+call::by_word-cast-requires t c = (omega arith, opened_cast c.in-Cast.is c.requires)
+
+pub call_cast::cast-returns-in_ok-cast_as-in-Ok-cast_target-clause-ok : goal.call_cast::cast-returns-in_ok-cast_as-in-Ok-cast_target-clause-ok
+call_cast::cast-returns-in_ok-cast_as-in-Ok-cast_target-clause-ok t c =
+    call_found _ (c.in-Ok-cast_target.ensures.ok _ _ (cast_operand c.requires c.in-Ok.ensures.ok))
+    c.in_ok-cast_as-in-Ok-cast_target.ensures
+
+pub call_cast::cast-returns-in-Err-cast_target-clause-err : goal.call_cast::cast-returns-in-Err-cast_target-clause-err
+call_cast::cast-returns-in-Err-cast_target-clause-err t c =
+    subst (λ f. IsCallFault c.args.below c.args.word.tokens.now f) (sym c.instead.ensures)
+    (c.in-Err-cast_target.ensures.err _ _ (cast_operand c.requires c.in-Ok.ensures.ok))
+
+pub call_cast::cast-returns-in-Err-clause-err : goal.call_cast::cast-returns-in-Err-clause-err
+call_cast::cast-returns-in-Err-clause-err t c = cast_missed c.requires c.in-Err.ensures.err

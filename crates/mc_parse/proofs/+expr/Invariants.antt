@@ -3,6 +3,7 @@ use Rattle.mc_parse.specs.Read.{as_operand}
 use Rattle.mc_parse.proofs.OperatorWays.{IsMultiplying, IsAdding}
 use Rattle.mc_parse.proofs.TruthWays.{IsOring, IsAnding, IsXoring}
 use Rattle.mc_parse.proofs.MemberWays.{IsCommaing}
+use Rattle.mc_parse.proofs.ArgumentWays.{IsArguing}
 use Rattle.mc_parse.proofs.+expr.Given as goal
 
 abbrev pub decreases-call::call : goal.decreases-call::call
@@ -135,3 +136,42 @@ invariant-members::push_ors-loop-behind l =
 
 abbrev pub decreases-members::push_ors-loop-behind : goal.decreases-members::push_ors-loop-behind
 decreases-members::push_ors-loop-behind l = length l.place.tokens.now
+abbrev pub decreases-call::by_word : goal.decreases-call::by_word
+decreases-call::by_word l = 64 * l.below + 70
+
+abbrev pub decreases-call_convert::convert : goal.decreases-call_convert::convert
+decreases-call_convert::convert l = 64 * l.below + 62
+
+abbrev pub decreases-call_plain::count : goal.decreases-call_plain::count
+decreases-call_plain::count l = 64 * l.below + 68
+
+abbrev pub decreases-call_plain::count_distinct : goal.decreases-call_plain::count_distinct
+decreases-call_plain::count_distinct l = 64 * l.below + 62
+
+abbrev pub decreases-call_plain::plain : goal.decreases-call_plain::plain
+decreases-call_plain::plain l = 64 * l.below + 66
+
+abbrev pub decreases-call_plain::one_or_more : goal.decreases-call_plain::one_or_more
+decreases-call_plain::one_or_more l = 64 * l.below + 65
+
+abbrev pub decreases-call_plain::many : goal.decreases-call_plain::many
+decreases-call_plain::many l = 64 * l.below + 64
+
+abbrev pub decreases-arguments::more_args : goal.decreases-arguments::more_args
+decreases-arguments::more_args l = 64 * l.below + 63
+
+abbrev pub decreases-arguments::more_ors : goal.decreases-arguments::more_ors
+decreases-arguments::more_ors l = 64 * l.below + 62
+
+abbrev pub decreases-arguments::push_or : goal.decreases-arguments::push_or
+decreases-arguments::push_or l = 64 * l.below + 61
+
+abbrev pub invariant-arguments::more_ors-loop-behind : goal.invariant-arguments::more_ors-loop-behind
+invariant-arguments::more_ors-loop-behind l =
+    IsArguing l.below l.fn.place.tokens.now l.place.tokens.now l.fn.list l.list
+
+abbrev pub decreases-arguments::more_ors-loop-behind : goal.decreases-arguments::more_ors-loop-behind
+decreases-arguments::more_ors-loop-behind l = length l.place.tokens.now
+
+abbrev pub decreases-call_cast::cast : goal.decreases-call_cast::cast
+decreases-call_cast::cast l = 64 * l.below + 62
