@@ -26,3 +26,4 @@ pub mod CallSteps
 pub mod CallWays
 pub mod ArgumentWays
 pub mod CastWays
+pub mod TrimWays

@@ -11,3 +11,4 @@ pub mod Said
 pub mod Members
 pub mod Calls
 pub mod Casts
+pub mod Parts

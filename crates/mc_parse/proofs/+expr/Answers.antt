@@ -2,9 +2,6 @@ use Rattle.std.proofs.Common.{◌-◌, refl, sym, ap, ◌∙◌, [], ◌∷◌, 
 use Rattle.std.specs.Prelude.{codes}
 use Rattle.std.proofs.lemmas.Grind.{common_steps}
 use Rattle.mc_ast.specs.Grouping.{whole}
-use Rattle.mc_ast.specs.declared.expr.Form.TheVariants as form
-use Rattle.mc_sql.specs.Classes as class
-use Rattle.mc_sql.specs.Rules as rule
 use Rattle.mc_parse.specs.Language.{behind, behind_at}
 use Rattle.mc_parse.specs.Read.{as_operand, IsFault}
 use Rattle.mc_parse.proofs.Ways.{link_shorter, begun}
@@ -15,12 +12,15 @@ use Rattle.mc_parse.proofs.TruthWays.{or_read, or_none, or_first_missed, or_more
 use Rattle.mc_parse.proofs.SaidWays.{sum_missed, comparing, compared_read, compared_missed, testing, matching, not_matching, listing, not_listing, ranging, not_ranging, just_read, denied_missed, said_missing}
 use Rattle.mc_parse.proofs.MatchingWays.{matched_read, matched_missed, ranged_read, ranged_first_missed, ranged_and_missed, ranged_last_missed, listed_read, listed_missed, listed_deep, listed_paren_missed}
 use Rattle.mc_parse.proofs.MemberWays.{comma_link, commas_read, comma_missed, members_read, members_first_missed, members_more_missed, members_close_missed}
-use Rattle.mc_parse.specs.Calls.{IsCallFault}
+use Rattle.mc_parse.specs.Calls.{IsCallFault, IsCallRead}
 use Rattle.mc_parse.proofs.CallSteps.{call_found}
-use Rattle.mc_parse.proofs.CallWays.{call_missed, call_unopened, call_deep, call_again, call_fails, opened_convert, opened_count, opened_other, convert_operand, convert_missed, star_read, star_unclosed, distinct_next, count_plain, distinct_read, distinct_missed, distinct_unclosed, empty_read, first_missed, first_read, single_read, not_single}
+use Rattle.mc_parse.proofs.CallWays.{call_missed, call_unopened, call_deep, call_again, call_fails, opened_convert, opened_count, opened_other, convert_operand, convert_missed, star_read, star_unclosed, distinct_next, count_plain, distinct_read, distinct_missed, distinct_unclosed, empty_read, first_missed, first_read, single_read, not_single, opened_cast, opened_trim}
 use Rattle.mc_parse.proofs.ArgumentWays.{ors_none, ors_link, ors_shorter, ors_missed, ors_all, or_pushed, comma_missed as argument_comma_missed, second_missed, others_missed, args_unclosed, args_read}
-use Rattle.mc_parse.proofs.CallWays.{opened_cast}
 use Rattle.mc_parse.proofs.CastWays.{cast_operand, cast_missed}
+use Rattle.mc_parse.proofs.TrimWays.{side_read, no_or_read, given_or_read, given_or_missed, removed_read, removed_missed, side_from_missed, side_text_missed, side_text_read, side_text_unclosed, both_from_missed, both_text_missed, both_text_read, both_text_unclosed, trim_empty, trim_operand, trim_first_missed, trim_from_next, trim_plain}
+use Rattle.mc_ast.specs.declared.expr.Form.TheVariants as form
+use Rattle.mc_sql.specs.Classes as class
+use Rattle.mc_sql.specs.Rules as rule
 use Rattle.mc_parse.proofs.+expr.Goals as goal
 
 pub operators::coll-returns-in-Ok-more_collates-clause-ok : goal.operators::coll-returns-in-Ok-more_collates-clause-ok
@@ -740,3 +740,101 @@ call_cast::cast-returns-in-Err-cast_target-clause-err t c =
 
 pub call_cast::cast-returns-in-Err-clause-err : goal.call_cast::cast-returns-in-Err-clause-err
 call_cast::cast-returns-in-Err-clause-err t c = cast_missed c.requires c.in-Err.ensures.err
+pub call::by_word-trim-requires : goal.call::by_word-trim-requires
+call::by_word-trim-requires t c = (omega arith, opened_trim c.in-Trim.is c.requires)
+
+pub call_trim::trim-trim_side-requires : goal.call_trim::trim-trim_side-requires
+call_trim::trim-trim_side-requires t c =
+    (omega arith, side_read _ c.requires c.in-Some.ensures)
+
+pub call_trim::trim-returns-in-Ok-closed-clause-ok : goal.call_trim::trim-returns-in-Ok-closed-clause-ok
+call_trim::trim-returns-in-Ok-closed-clause-ok t c =
+    call_found _ (trim_empty c.requires c.in-Ok-closed.ensures.ok) c.in_ok-called_alone.ensures
+
+pub call_trim::trim-trim_or-requires : goal.call_trim::trim-trim_or-requires
+call_trim::trim-trim_or-requires t c =
+    (omega arith, trim_operand c.requires c.in_default.ensures c.in_default-closed.ensures.err)
+
+pub call_trim::trim_or-trim_from-requires : goal.call_trim::trim_or-trim_from-requires
+call_trim::trim_or-trim_from-requires t c =
+    (omega arith, trim_from_next c.requires c.in-Ok.ensures.ok c.in-Some.ensures)
+
+pub call_trim::trim_or-one_or_more-requires : goal.call_trim::trim_or-one_or_more-requires
+call_trim::trim_or-one_or_more-requires t c =
+    (omega arith, trim_plain c.requires c.in-Ok.ensures.ok c.in-None.ensures)
+
+pub call_trim::trim_or-returns-in-Err-clause-err : goal.call_trim::trim_or-returns-in-Err-clause-err
+call_trim::trim_or-returns-in-Err-clause-err t c =
+    trim_first_missed c.requires c.in-Err.ensures.err
+
+pub call_trim::trim_from-returns-in_ok-trimmed_of-in-Ok-clause-ok : goal.call_trim::trim_from-returns-in_ok-trimmed_of-in-Ok-clause-ok
+call_trim::trim_from-returns-in_ok-trimmed_of-in-Ok-clause-ok t c =
+    call_found _ (c.in-Ok.ensures.ok _ c.requires) c.in_ok-trimmed_of-in-Ok.ensures
+
+pub call_trim::trim_from-returns-in-Err-clause-err : goal.call_trim::trim_from-returns-in-Err-clause-err
+call_trim::trim_from-returns-in-Err-clause-err t c =
+    subst (λ f. IsCallFault c.args.below c.args.word.tokens.now f) (sym c.instead.ensures)
+    (c.in-Err.ensures.err _ c.requires)
+
+pub call_trim::trim_side-returns-in_ok-trimmed-in-Ok-from_text-clause-ok : goal.call_trim::trim_side-returns-in_ok-trimmed-in-Ok-from_text-clause-ok
+call_trim::trim_side-returns-in_ok-trimmed-in-Ok-from_text-clause-ok t c =
+    call_found _ (subst (λ z. IsCallRead c.args.below c.args.word.tokens.now
+    c.in-Ok-from_text.rest.tokens.now c.in-Ok-from_text.span
+    (form.Trim c.args.side z c.in-Ok-from_text.text.expr)) (sym c.in-Ok.ensures.ok.says)
+    (c.in-Ok-from_text.ensures.side_ok _ _ (removed_read c.requires c.in-Ok.ensures.ok)))
+    c.in_ok-trimmed-in-Ok-from_text.ensures
+
+pub call_trim::trim_side-returns-in-Err-from_text-clause-err : goal.call_trim::trim_side-returns-in-Err-from_text-clause-err
+call_trim::trim_side-returns-in-Err-from_text-clause-err t c =
+    subst (λ f. IsCallFault c.args.below c.args.word.tokens.now f) (sym c.instead_of.ensures)
+    (c.in-Err-from_text.ensures.side_err _ _ (removed_read c.requires c.in-Ok.ensures.ok))
+
+pub call_trim::trim_side-returns-in-Err-clause-err : goal.call_trim::trim_side-returns-in-Err-clause-err
+call_trim::trim_side-returns-in-Err-clause-err t c =
+    removed_missed c.requires c.in-Err.ensures.err
+
+pub call_trim::or_option-returns-in-Some-clause-ok : goal.call_trim::or_option-returns-in-Some-clause-ok
+call_trim::or_option-returns-in-Some-clause-ok t c =
+    no_or_read c.in-Some.ensures
+
+pub call_trim::or_option-returns-in_ok-new-in-Ok-clause-ok : goal.call_trim::or_option-returns-in_ok-new-in-Ok-clause-ok
+call_trim::or_option-returns-in_ok-new-in-Ok-clause-ok t c =
+    given_or_read c.in_default.ensures c.in-Ok.ensures.ok c.in_ok-new-in-Ok.ensures
+
+pub call_trim::or_option-returns-in-Err-clause-err : goal.call_trim::or_option-returns-in-Err-clause-err
+call_trim::or_option-returns-in-Err-clause-err t c =
+    given_or_missed c.in_default.ensures c.in-Err.ensures.err
+
+pub call_trim::from_text-returns-in_default-clause-side_err : goal.call_trim::from_text-returns-in_default-clause-side_err
+call_trim::from_text-returns-in_default-clause-side_err t c s m p =
+    side_from_missed c.in_default.ensures c.left.ensures p
+
+pub call_trim::from_text-returns-in-Ok-closed-clause-side_ok : goal.call_trim::from_text-returns-in-Ok-closed-clause-side_ok
+call_trim::from_text-returns-in-Ok-closed-clause-side_ok t c s m p =
+    side_text_read c.in-Some.ensures c.in-Ok.ensures.ok c.in-Ok-closed.ensures.ok p
+
+pub call_trim::from_text-returns-in-Err-closed-clause-side_err : goal.call_trim::from_text-returns-in-Err-closed-clause-side_err
+call_trim::from_text-returns-in-Err-closed-clause-side_err t c s m p =
+    subst (λ f. IsCallFault c.args.below c.args.word.tokens.now f) (sym c.instead.ensures)
+    (side_text_unclosed c.in-Some.ensures c.in-Ok.ensures.ok c.in-Err-closed.ensures.err p)
+
+pub call_trim::from_text-returns-in-Err-clause-side_err : goal.call_trim::from_text-returns-in-Err-clause-side_err
+call_trim::from_text-returns-in-Err-clause-side_err t c s m p =
+    side_text_missed c.in-Some.ensures c.in-Err.ensures.err p
+
+pub call_trim::from_text-returns-in_default-clause-err : goal.call_trim::from_text-returns-in_default-clause-err
+call_trim::from_text-returns-in_default-clause-err t c x p =
+    both_from_missed c.in_default.ensures c.left.ensures p
+
+pub call_trim::from_text-returns-in-Ok-closed-clause-ok : goal.call_trim::from_text-returns-in-Ok-closed-clause-ok
+call_trim::from_text-returns-in-Ok-closed-clause-ok t c x p =
+    both_text_read c.in-Some.ensures c.in-Ok.ensures.ok c.in-Ok-closed.ensures.ok p
+
+pub call_trim::from_text-returns-in-Err-closed-clause-err : goal.call_trim::from_text-returns-in-Err-closed-clause-err
+call_trim::from_text-returns-in-Err-closed-clause-err t c x p =
+    subst (λ f. IsCallFault c.args.below c.args.word.tokens.now f) (sym c.instead.ensures)
+    (both_text_unclosed c.in-Some.ensures c.in-Ok.ensures.ok c.in-Err-closed.ensures.err p)
+
+pub call_trim::from_text-returns-in-Err-clause-err : goal.call_trim::from_text-returns-in-Err-clause-err
+call_trim::from_text-returns-in-Err-clause-err t c x p =
+    both_text_missed c.in-Some.ensures c.in-Err.ensures.err p

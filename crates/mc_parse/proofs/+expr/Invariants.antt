@@ -175,3 +175,20 @@ decreases-arguments::more_ors-loop-behind l = length l.place.tokens.now
 
 abbrev pub decreases-call_cast::cast : goal.decreases-call_cast::cast
 decreases-call_cast::cast l = 64 * l.below + 62
+abbrev pub decreases-call_trim::trim : goal.decreases-call_trim::trim
+decreases-call_trim::trim l = 64 * l.below + 69
+
+abbrev pub decreases-call_trim::trim_side : goal.decreases-call_trim::trim_side
+decreases-call_trim::trim_side l = 64 * l.below + 66
+
+abbrev pub decreases-call_trim::trim_or : goal.decreases-call_trim::trim_or
+decreases-call_trim::trim_or l = 64 * l.below + 68
+
+abbrev pub decreases-call_trim::trim_from : goal.decreases-call_trim::trim_from
+decreases-call_trim::trim_from l = 64 * l.below + 67
+
+abbrev pub decreases-call_trim::from_text : goal.decreases-call_trim::from_text
+decreases-call_trim::from_text l = 64 * l.below + 62
+
+abbrev pub decreases-call_trim::or_option : goal.decreases-call_trim::or_option
+decreases-call_trim::or_option l = 64 * l.below + 62
