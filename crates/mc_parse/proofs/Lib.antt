@@ -13,3 +13,4 @@ pub mod CallSteps
 pub mod CallWays
 pub mod ArgumentWays
 pub mod TrimWays
+pub mod SubstringWays
