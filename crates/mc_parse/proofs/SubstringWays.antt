@@ -1,5 +1,5 @@
 -- The ways through the functions that read SUBSTRING.
-use Rattle.std.proofs.Common.{◌≡◌, refl, sym, ap, subst, ℕ, suc, ◌≤◌, false, List, [], ◌∷◌, ◌++◌, IsTrue, Option, Some, None, length, arith, codes}
+use Rattle.std.proofs.Common.{◌≡◌, refl, sym, ap, subst, ℕ, false, List, [], ◌∷◌, IsTrue, Option, Some, None, length, arith, codes}
 use Rattle.std.specs.Option.{option_map}
 use Rattle.mc_base.specs.declared.span.Span.{Span}
 use Rattle.mc_token.specs.Keywords.{keyword_of}
@@ -13,7 +13,7 @@ use Rattle.mc_sql.specs.Rules as rule
 use Rattle.mc_ast.specs.declared.expr.Expr.{Expr}
 use Rattle.mc_ast.specs.declared.expr.Form.TheVariants as form
 use Rattle.mc_ast.specs.Spans.{span_of}
-use Rattle.mc_ast.specs.Values.{Operand, a_token, operand, maybe_operand}
+use Rattle.mc_ast.specs.Values.{Operand, a_token, operand}
 use Rattle.mc_parse.specs.declared.fault.Fault.{Fault}
 use Rattle.mc_parse.specs.declared.operand.Operand.{Operand as Found}
 use Rattle.mc_parse.specs.Language.{language, behind, behind_at}
@@ -139,7 +139,8 @@ pub substring_empty : {below : ℕ} {tokens v w : List Token} {span : Span}
     → IsClosed tokens v w span → IsCallRead below tokens w span (form.Call (codes "substring") [])
 unfolding behind keyword_of is_intro is_called
 substring_empty p c =
-    in_closed (in_next {bs = rule.empty_call ∷ []} p c.next refl) c (λ s. refl) refl (λ e s t u. refl)
+    in_closed (in_next {bs = rule.empty_call ∷ []} p c.next refl) c (λ s. refl) refl
+    (λ e s t u. refl)
 
 pub substring_operand : {below : ℕ} {tokens v : List Token} {other : Fault}
     → IsInCall (codes "substring") below 2

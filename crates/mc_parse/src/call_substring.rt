@@ -71,15 +71,15 @@ fn length<'a>(
     place: Place<'a>,
 ) -> Result<(Option<Boxed<Expr>>, Span, Place<'a>), Fault>
     ensures ok { IfOk result (λ found. (x y : Meant) (s : Span)
-        → IsInCall (codes "substring") below 5 (rule.substring_call ∷ []) (an_operand x
-        ∷ a_token (record { span = s; kind = lexeme.Word (codes "from") }) ∷ an_operand y ∷ [])
-        word.entry.tokens.now place.entry.tokens.now
+        → IsInCall (codes "substring") below 5 (rule.substring_call ∷ [])
+        (an_operand x ∷ a_token (record { span = s; kind = lexeme.Word (codes "from") })
+        ∷ an_operand y ∷ []) word.entry.tokens.now place.entry.tokens.now
         → IsCallRead below word.entry.tokens.now found.2.tokens.now found.1
         (form.SubstringFrom x.expr y.expr found.0)) }
     ensures err { IfErr result (λ fault. (x y : Meant) (s : Span)
-        → IsInCall (codes "substring") below 5 (rule.substring_call ∷ []) (an_operand x
-        ∷ a_token (record { span = s; kind = lexeme.Word (codes "from") }) ∷ an_operand y ∷ [])
-        word.entry.tokens.now place.entry.tokens.now
+        → IsInCall (codes "substring") below 5 (rule.substring_call ∷ [])
+        (an_operand x ∷ a_token (record { span = s; kind = lexeme.Word (codes "from") })
+        ∷ an_operand y ∷ []) word.entry.tokens.now place.entry.tokens.now
         → IsCallFault below word.entry.tokens.now fault) }
 {
     match length_option(alloc, below, place) {

@@ -543,9 +543,13 @@ call_substring::substring-substring_or-requires t c =
     (omega arith, substring_operand c.requires c.in_default.ensures.err)
 
 pub call_substring::substring_or-substring_from-requires : goal.call_substring::substring_or-substring_from-requires
-call_substring::substring_or-substring_from-requires t c =
-    (omega arith, (substring_from_next c.requires c.in-Ok.ensures.ok c.in-Some.ensures,
-    c.in-Some.ensures))
+call_substring::substring_or-substring_from-requires t c = (
+  omega arith,
+  (
+    substring_from_next c.requires c.in-Ok.ensures.ok c.in-Some.ensures,
+    c.in-Some.ensures,
+  ),
+)
 
 pub call_substring::substring_or-one_or_more-requires : goal.call_substring::substring_or-one_or_more-requires
 call_substring::substring_or-one_or_more-requires t c =
