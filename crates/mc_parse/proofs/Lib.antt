@@ -27,3 +27,4 @@ pub mod CallWays
 pub mod ArgumentWays
 pub mod CastWays
 pub mod TrimWays
+pub mod SubstringWays

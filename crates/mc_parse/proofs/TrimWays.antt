@@ -1,5 +1,5 @@
 -- The ways through the functions that read TRIM.
-use Rattle.std.proofs.Common.{◌≡◌, refl, sym, ap, ◌∙◌, subst, ℕ, suc, ◌≤◌, false, List, [], ◌∷◌, ◌++◌, IsTrue, Option, Some, None, length, arith, codes}
+use Rattle.std.proofs.Common.{◌≡◌, refl, sym, ap, subst, ℕ, false, List, [], ◌∷◌, IsTrue, Option, Some, None, length, arith, codes}
 use Rattle.std.specs.Option.{option_map}
 use Rattle.mc_base.specs.declared.span.Span.{Span}
 use Rattle.mc_token.specs.Keywords.{keyword_of}
@@ -7,7 +7,6 @@ use Rattle.mc_token.specs.declared.lexeme.Lexeme.TheVariants.{Word}
 use Rattle.mc_token.specs.declared.lexeme.Symbol.TheVariants.{RightParen}
 use Rattle.mc_token.specs.declared.lexeme.Token.{Token}
 use Rattle.mc_grammar.specs.Places.{Done}
-use Rattle.mc_grammar.proofs.Inside.{enter}
 use Rattle.mc_grammar.proofs.Seeing.{sees_next}
 use Rattle.mc_grammar.proofs.Ways.{choose, take_token, read_rule, widen}
 use Rattle.mc_sql.specs.Classes.{word, mark, is_intro, is_called}
@@ -24,9 +23,8 @@ use Rattle.mc_parse.specs.declared.operand.Operand.{Operand as Found}
 use Rattle.mc_parse.specs.Language.{language, at, behind, behind_at}
 use Rattle.mc_parse.specs.Parts.{side_word, side_words, MayRead}
 use Rattle.mc_parse.specs.Place.{is_missing, are_missing, IsNext}
-use Rattle.mc_parse.specs.Read.{IsRead, IsFault, as_operand, IsOperandAt}
+use Rattle.mc_parse.specs.Read.{IsFault, as_operand, IsOperandAt}
 use Rattle.mc_parse.specs.Calls.{IsInCall, IsCallRead, IsCallFault, IsClosed, IsUnclosed}
-use Rattle.mc_parse.proofs.TokenKinds.{both_parts}
 use Rattle.mc_parse.proofs.Ways.{sound, both_missing, sees_missing, is_read, is_fault}
 use Rattle.mc_parse.proofs.CallSteps.{in_token, in_rule, in_next, in_missing, in_fault, in_missed, in_closed, in_unclosed}
 
@@ -123,7 +121,8 @@ removed_missed p o = in_fault p o refl refl
 
 -- FROM or ), behind a side
 
-pub side_from_missed : {below : ℕ} {tokens v : List Token} {s : TrimSide} {m : Option Operand} {left : ℕ}
+pub side_from_missed : {below : ℕ} {tokens v : List Token} {s : TrimSide} {m : Option Operand}
+    {left : ℕ}
     → IsTrue (is_missing (word (codes "from")) v) → left ≡ length v
     → IsInCall (codes "trim") below 4 (rule.trim_side_call ∷ [])
     (trim_side s ∷ maybe_operand m ∷ []) tokens v
@@ -131,7 +130,8 @@ pub side_from_missed : {below : ℕ} {tokens v : List Token} {s : TrimSide} {m :
 unfolding behind behind_at keyword_of is_intro is_called
 side_from_missed h e p = in_missed (word (codes "from") ∷ []) p (both_missing _ _ h refl) refl e
 
-pub side_text_missed : {below : ℕ} {tokens v w : List Token} {s : TrimSide} {m : Option Operand} {fault : Fault}
+pub side_text_missed : {below : ℕ} {tokens v w : List Token} {s : TrimSide} {m : Option Operand}
+    {fault : Fault}
     → IsNext (Word (codes "from")) v w → IsFault (behind_at false rule.or) rule.or below w fault
     → IsInCall (codes "trim") below 4 (rule.trim_side_call ∷ [])
     (trim_side s ∷ maybe_operand m ∷ []) tokens v
@@ -211,7 +211,8 @@ pub trim_empty : {below : ℕ} {tokens v w : List Token} {span : Span}
     → IsClosed tokens v w span → IsCallRead below tokens w span (form.Call (codes "trim") [])
 unfolding behind keyword_of is_intro is_called
 trim_empty p c =
-    in_closed (in_next {bs = rule.empty_call ∷ []} p c.next refl) c (λ s. refl) refl (λ e s t u. refl)
+    in_closed (in_next {bs = rule.empty_call ∷ []} p c.next refl) c (λ s. refl) refl
+    (λ e s t u. refl)
 
 pub trim_operand : {below : ℕ} {tokens v : List Token} {other : Fault}
     → IsInCall (codes "trim") below 2 (rule.trim_side_call ∷ rule.trim_call

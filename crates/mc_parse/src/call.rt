@@ -20,6 +20,7 @@ ghost use Rattle.mc_parse.specs.Calls.{
 use crate::call_cast::cast;
 use crate::call_convert::convert;
 use crate::call_plain::{count, plain};
+use crate::call_substring::substring;
 use crate::call_trim::trim;
 use crate::fault::Fault;
 use crate::operand::{Operand, from_to};
@@ -116,6 +117,10 @@ fn by_word<'a>(
             Err(fault) => Err(fault),
         },
         CallWord::Trim => match trim(alloc, below, word, place) {
+            Ok((operand, rest)) => Ok((operand, rest)),
+            Err(fault) => Err(fault),
+        },
+        CallWord::Substring => match substring(alloc, below, word, place) {
             Ok((operand, rest)) => Ok((operand, rest)),
             Err(fault) => Err(fault),
         },

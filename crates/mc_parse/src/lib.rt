@@ -17,6 +17,7 @@ mod call;
 mod call_cast;
 mod call_convert;
 mod call_plain;
+mod call_substring;
 mod call_trim;
 mod clauses;
 mod comparison;

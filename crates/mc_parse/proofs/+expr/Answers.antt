@@ -14,10 +14,11 @@ use Rattle.mc_parse.proofs.MatchingWays.{matched_read, matched_missed, ranged_re
 use Rattle.mc_parse.proofs.MemberWays.{comma_link, commas_read, comma_missed, members_read, members_first_missed, members_more_missed, members_close_missed}
 use Rattle.mc_parse.specs.Calls.{IsCallFault, IsCallRead}
 use Rattle.mc_parse.proofs.CallSteps.{call_found}
-use Rattle.mc_parse.proofs.CallWays.{call_missed, call_unopened, call_deep, call_again, call_fails, opened_convert, opened_count, opened_other, convert_operand, convert_missed, star_read, star_unclosed, distinct_next, count_plain, distinct_read, distinct_missed, distinct_unclosed, empty_read, first_missed, first_read, single_read, not_single, opened_cast, opened_trim}
+use Rattle.mc_parse.proofs.CallWays.{call_missed, call_unopened, call_deep, call_again, call_fails, opened_convert, opened_count, opened_other, convert_operand, convert_missed, star_read, star_unclosed, distinct_next, count_plain, distinct_read, distinct_missed, distinct_unclosed, empty_read, first_missed, first_read, single_read, not_single, opened_cast, opened_trim, opened_substring}
 use Rattle.mc_parse.proofs.ArgumentWays.{ors_none, ors_link, ors_shorter, ors_missed, ors_all, or_pushed, comma_missed as argument_comma_missed, second_missed, others_missed, args_unclosed, args_read}
 use Rattle.mc_parse.proofs.CastWays.{cast_operand, cast_missed}
 use Rattle.mc_parse.proofs.TrimWays.{side_read, no_or_read, given_or_read, given_or_missed, removed_read, removed_missed, side_from_missed, side_text_missed, side_text_read, side_text_unclosed, both_from_missed, both_text_missed, both_text_read, both_text_unclosed, trim_empty, trim_operand, trim_first_missed, trim_from_next, trim_plain}
+use Rattle.mc_parse.proofs.SubstringWays.{no_length_read, length_read, length_missed, part_read, part_unclosed, part_missed, start_missed, start_read, substring_empty, substring_operand, substring_first_missed, substring_from_next, substring_plain}
 use Rattle.mc_ast.specs.declared.expr.Form.TheVariants as form
 use Rattle.mc_sql.specs.Classes as class
 use Rattle.mc_sql.specs.Rules as rule
@@ -838,3 +839,74 @@ call_trim::from_text-returns-in-Err-closed-clause-err t c x p =
 pub call_trim::from_text-returns-in-Err-clause-err : goal.call_trim::from_text-returns-in-Err-clause-err
 call_trim::from_text-returns-in-Err-clause-err t c x p =
     both_text_missed c.in-Some.ensures c.in-Err.ensures.err p
+
+pub call::by_word-substring-requires : goal.call::by_word-substring-requires
+call::by_word-substring-requires t c = (omega arith, opened_substring c.in-Substring.is c.requires)
+
+pub call_substring::substring-returns-in-Ok-clause-ok : goal.call_substring::substring-returns-in-Ok-clause-ok
+call_substring::substring-returns-in-Ok-clause-ok t c =
+    call_found _ (substring_empty c.requires c.in-Ok.ensures.ok) c.in_ok-called_alone.ensures
+
+pub call_substring::substring-substring_or-requires : goal.call_substring::substring-substring_or-requires
+call_substring::substring-substring_or-requires t c =
+    (omega arith, substring_operand c.requires c.in_default.ensures.err)
+
+pub call_substring::substring_or-substring_from-requires : goal.call_substring::substring_or-substring_from-requires
+call_substring::substring_or-substring_from-requires t c = (
+  omega arith,
+  (
+    substring_from_next c.requires c.in-Ok.ensures.ok c.in-Some.ensures,
+    c.in-Some.ensures,
+  ),
+)
+
+pub call_substring::substring_or-one_or_more-requires : goal.call_substring::substring_or-one_or_more-requires
+call_substring::substring_or-one_or_more-requires t c =
+    (omega arith, substring_plain c.requires c.in-Ok.ensures.ok c.in-None.ensures)
+
+pub call_substring::substring_or-returns-in-Err-clause-err : goal.call_substring::substring_or-returns-in-Err-clause-err
+call_substring::substring_or-returns-in-Err-clause-err t c =
+    substring_first_missed c.requires c.in-Err.ensures.err
+
+pub call_substring::substring_from-returns-in_ok-part_of-in-Ok-length-clause-ok : goal.call_substring::substring_from-returns-in_ok-part_of-in-Ok-length-clause-ok
+call_substring::substring_from-returns-in_ok-part_of-in-Ok-length-clause-ok t c =
+    call_found _ (c.in-Ok-length.ensures.ok _ _ _
+    (start_read c.requires.before c.requires.from c.in-Ok.ensures.ok))
+    c.in_ok-part_of-in-Ok-length.ensures
+
+pub call_substring::substring_from-returns-in-Err-length-clause-err : goal.call_substring::substring_from-returns-in-Err-length-clause-err
+call_substring::substring_from-returns-in-Err-length-clause-err t c =
+    subst (λ f. IsCallFault c.args.below c.args.word.tokens.now f)
+    (sym (c.instead-in-Err-length.ensures ∙ c.instead.ensures))
+    (c.in-Err-length.ensures.err _ _ _
+    (start_read c.requires.before c.requires.from c.in-Ok.ensures.ok))
+
+pub call_substring::substring_from-returns-in-Err-clause-err : goal.call_substring::substring_from-returns-in-Err-clause-err
+call_substring::substring_from-returns-in-Err-clause-err t c =
+    subst (λ f. IsCallFault c.args.below c.args.word.tokens.now f) (sym c.instead-in-Err.ensures)
+    (start_missed c.requires.before c.requires.from c.in-Err.ensures.err)
+
+pub call_substring::length-returns-in-Ok-closed-clause-ok : goal.call_substring::length-returns-in-Ok-closed-clause-ok
+call_substring::length-returns-in-Ok-closed-clause-ok t c x y s p =
+    part_read c.in-Ok.ensures.ok c.in-Ok-closed.ensures.ok p
+
+pub call_substring::length-returns-in-Err-closed-clause-err : goal.call_substring::length-returns-in-Err-closed-clause-err
+call_substring::length-returns-in-Err-closed-clause-err t c x y s p =
+    subst (λ f. IsCallFault c.args.below c.args.word.tokens.now f) (sym c.instead_of.ensures)
+    (part_unclosed c.in-Ok.ensures.ok c.in-Err-closed.ensures.err p)
+
+pub call_substring::length-returns-in-Err-clause-err : goal.call_substring::length-returns-in-Err-clause-err
+call_substring::length-returns-in-Err-clause-err t c x y s p =
+    part_missed c.in-Err.ensures.err p
+
+pub call_substring::length_option-returns-in_default-clause-ok : goal.call_substring::length_option-returns-in_default-clause-ok
+call_substring::length_option-returns-in_default-clause-ok t c =
+    no_length_read c.in_default.ensures
+
+pub call_substring::length_option-returns-in_ok-new-in-Ok-clause-ok : goal.call_substring::length_option-returns-in_ok-new-in-Ok-clause-ok
+call_substring::length_option-returns-in_ok-new-in-Ok-clause-ok t c =
+    length_read c.in-Some.ensures c.in-Ok.ensures.ok c.in_ok-new-in-Ok.ensures
+
+pub call_substring::length_option-returns-in-Err-clause-err : goal.call_substring::length_option-returns-in-Err-clause-err
+call_substring::length_option-returns-in-Err-clause-err t c =
+    length_missed c.in-Some.ensures c.in-Err.ensures.err

@@ -192,3 +192,18 @@ decreases-call_trim::from_text l = 64 * l.below + 62
 
 abbrev pub decreases-call_trim::or_option : goal.decreases-call_trim::or_option
 decreases-call_trim::or_option l = 64 * l.below + 62
+
+abbrev pub decreases-call_substring::substring : goal.decreases-call_substring::substring
+decreases-call_substring::substring l = 64 * l.below + 69
+
+abbrev pub decreases-call_substring::substring_or : goal.decreases-call_substring::substring_or
+decreases-call_substring::substring_or l = 64 * l.below + 68
+
+abbrev pub decreases-call_substring::substring_from : goal.decreases-call_substring::substring_from
+decreases-call_substring::substring_from l = 64 * l.below + 67
+
+abbrev pub decreases-call_substring::length : goal.decreases-call_substring::length
+decreases-call_substring::length l = 64 * l.below + 66
+
+abbrev pub decreases-call_substring::length_option : goal.decreases-call_substring::length_option
+decreases-call_substring::length_option l = 64 * l.below + 62
