@@ -12,3 +12,4 @@ pub mod TruthWays
 pub mod CallSteps
 pub mod CallWays
 pub mod ArgumentWays
+pub mod WeightWays

@@ -6,3 +6,4 @@ pub mod Strings
 pub mod Signs
 pub mod Comparisons
 pub mod Calls
+pub mod Cuts

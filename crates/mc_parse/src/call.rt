@@ -19,6 +19,7 @@ ghost use Rattle.mc_parse.specs.Calls.{
 
 use crate::call_convert::convert;
 use crate::call_plain::{count, plain};
+use crate::call_weight::weight_string;
 use crate::fault::Fault;
 use crate::operand::{Operand, from_to};
 use crate::place::Place;
@@ -102,6 +103,10 @@ fn by_word<'a>(
             Err(fault) => Err(fault),
         },
         CallWord::Count => match count(alloc, below, word, place) {
+            Ok((operand, rest)) => Ok((operand, rest)),
+            Err(fault) => Err(fault),
+        },
+        CallWord::WeightString => match weight_string(alloc, below, word, place) {
             Ok((operand, rest)) => Ok((operand, rest)),
             Err(fault) => Err(fault),
         },

@@ -12,6 +12,7 @@ mod arguments;
 mod call;
 mod call_convert;
 mod call_plain;
+mod call_weight;
 mod comparison;
 mod fault;
 mod operand;

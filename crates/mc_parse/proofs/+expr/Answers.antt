@@ -16,6 +16,8 @@ use Rattle.mc_parse.specs.Calls.{IsCallFault}
 use Rattle.mc_parse.proofs.CallSteps.{call_found}
 use Rattle.mc_parse.proofs.CallWays.{call_missed, call_unopened, call_deep, call_again, call_fails, opened_convert, opened_count, opened_other, convert_operand, convert_missed, star_read, star_unclosed, distinct_next, count_plain, distinct_read, distinct_missed, distinct_unclosed, empty_read, first_missed, first_read, single_read, not_single}
 use Rattle.mc_parse.proofs.ArgumentWays.{ors_none, ors_link, ors_shorter, ors_missed, ors_all, or_pushed, comma_missed, second_missed, others_missed, args_unclosed, args_read}
+use Rattle.mc_parse.proofs.CallWays.{opened_weight_string}
+use Rattle.mc_parse.proofs.WeightWays.{weight_empty, weight_missed, weight_operand, weight_many, weight_alone}
 use Rattle.mc_parse.proofs.+expr.Goals as goal
 
 pub operators::coll-returns-in-Ok-more_collates-clause-ok : goal.operators::coll-returns-in-Ok-more_collates-clause-ok
@@ -429,3 +431,38 @@ arguments::more_args-returns-in-Err-more_ors-clause-err t c name x p =
 pub arguments::more_args-returns-in-Err-clause-err : goal.arguments::more_args-returns-in-Err-clause-err
 arguments::more_args-returns-in-Err-clause-err t c name x p =
     second_missed c.in-Some.ensures c.in-Err.ensures.err p
+
+-- WEIGHT_STRING
+
+pub call::by_word-weight_string-requires : goal.call::by_word-weight_string-requires
+call::by_word-weight_string-requires t c =
+    (omega arith, opened_weight_string c.in-WeightString.is c.requires)
+
+pub call_weight::weight_string-returns-in-Ok-clause-ok : goal.call_weight::weight_string-returns-in-Ok-clause-ok
+call_weight::weight_string-returns-in-Ok-clause-ok t c =
+    call_found _ (weight_empty c.requires c.in-Ok.ensures.ok)
+    (c.whole.ensures
+    ∙ ap (λ z. whole c.in-Ok.span (form.Call z c.new-args.result)) c.in_ok-name.ensures
+    ∙ ap (λ z. whole c.in-Ok.span (form.Call (codes "weight_string") z)) c.new-args.ensures)
+
+pub call_weight::weight_string-cut_or_many-requires : goal.call_weight::weight_string-cut_or_many-requires
+call_weight::weight_string-cut_or_many-requires t c =
+    (omega arith, weight_operand c.requires c.in_default.ensures.err c.in-Ok-or.ensures.ok)
+
+pub call_weight::weight_string-returns-in-Err-clause-err : goal.call_weight::weight_string-returns-in-Err-clause-err
+call_weight::weight_string-returns-in-Err-clause-err t c =
+    weight_missed c.requires c.in_default.ensures.err c.in-Err.ensures.err
+
+pub call_weight::cut_or_many-many-requires : goal.call_weight::cut_or_many-many-requires
+call_weight::cut_or_many-many-requires t c =
+    (omega arith, weight_many c.requires c.in-Some.ensures)
+
+pub call_weight::cut_or_many-returns-in_ok-weighed-in-Ok-cut_closed-clause-ok : goal.call_weight::cut_or_many-returns-in_ok-weighed-in-Ok-cut_closed-clause-ok
+call_weight::cut_or_many-returns-in_ok-weighed-in-Ok-cut_closed-clause-ok t c =
+    call_found _ (c.in-Ok-cut_closed.ensures.ok _ (weight_alone c.requires c.in-None.ensures))
+    c.in_ok-weighed-in-Ok-cut_closed.ensures
+
+pub call_weight::cut_or_many-returns-in-Err-cut_closed-clause-err : goal.call_weight::cut_or_many-returns-in-Err-cut_closed-clause-err
+call_weight::cut_or_many-returns-in-Err-cut_closed-clause-err t c =
+    subst (λ f. IsCallFault c.args.below c.args.word.tokens.now f) (sym c.instead.ensures)
+    (c.in-Err-cut_closed.ensures.err _ (weight_alone c.requires c.in-None.ensures))

@@ -135,3 +135,9 @@ invariant-arguments::more_ors-loop-behind l =
 
 abbrev pub decreases-arguments::more_ors-loop-behind : goal.decreases-arguments::more_ors-loop-behind
 decreases-arguments::more_ors-loop-behind l = length l.place.tokens.now
+
+abbrev pub decreases-call_weight::weight_string : goal.decreases-call_weight::weight_string
+decreases-call_weight::weight_string l = 64 * l.below + 66
+
+abbrev pub decreases-call_weight::cut_or_many : goal.decreases-call_weight::cut_or_many
+decreases-call_weight::cut_or_many l = 64 * l.below + 65
