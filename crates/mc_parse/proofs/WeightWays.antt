@@ -1,16 +1,15 @@
 -- The ways through the functions that read WEIGHT_STRING.
-use Rattle.std.proofs.Common.{◌≡◌, refl, sym, ap, ◌∙◌, subst, ℕ, ℤ, suc, ◌+◌, ◌≤◌, false, List, [], ◌∷◌, ◌++◌, drop, IsTrue, Option, Some, None, length, arith, codes}
+use Rattle.std.proofs.Common.{◌≡◌, refl, sym, ap, ◌∙◌, subst, ℕ, ℤ, suc, false, List, [], ◌∷◌, drop, IsTrue, Option, Some, None, length, arith, codes}
 use Rattle.mc_base.specs.declared.span.Span.{Span}
 use Rattle.mc_token.specs.Keywords.{keyword_of}
 use Rattle.mc_token.specs.declared.lexeme.Lexeme.TheVariants.{Word, Sym, Int}
 use Rattle.mc_token.specs.declared.lexeme.Symbol.TheVariants.{LeftParen, RightParen, Comma}
 use Rattle.mc_token.specs.declared.lexeme.Token.{Token}
-use Rattle.mc_grammar.specs.Places.{Place, Inside}
-use Rattle.mc_grammar.specs.Room.{Roomed, Admitted}
+use Rattle.mc_grammar.specs.Places.{Inside}
 use Rattle.mc_grammar.proofs.Seeing.{sees_next}
 use Rattle.mc_grammar.proofs.Ways.{choose, look, take_token, widen}
-use Rattle.mc_sql.specs.Classes.{Class, word, mark, int, is_intro, is_called}
-use Rattle.mc_sql.specs.Rules.{Rule, Alternative, char_cut, binary_cut}
+use Rattle.mc_sql.specs.Classes.{word, mark, int, is_intro, is_called}
+use Rattle.mc_sql.specs.Rules.{Alternative, char_cut, binary_cut}
 use Rattle.mc_sql.specs.Rules as rule
 use Rattle.mc_ast.specs.declared.expr.Form.TheVariants as form
 use Rattle.mc_ast.specs.declared.operators.Cut.{Cut}
