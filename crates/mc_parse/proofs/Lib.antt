@@ -28,3 +28,4 @@ pub mod ArgumentWays
 pub mod CastWays
 pub mod TrimWays
 pub mod SubstringWays
+pub mod WeightWays

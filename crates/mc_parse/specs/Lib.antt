@@ -12,3 +12,4 @@ pub mod Members
 pub mod Calls
 pub mod Casts
 pub mod Parts
+pub mod Cuts

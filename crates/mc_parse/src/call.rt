@@ -22,6 +22,7 @@ use crate::call_convert::convert;
 use crate::call_plain::{count, plain};
 use crate::call_substring::substring;
 use crate::call_trim::trim;
+use crate::call_weight::weight_string;
 use crate::fault::Fault;
 use crate::operand::{Operand, from_to};
 use crate::place::Place;
@@ -109,6 +110,10 @@ fn by_word<'a>(
             Err(fault) => Err(fault),
         },
         CallWord::Count => match count(alloc, below, word, place) {
+            Ok((operand, rest)) => Ok((operand, rest)),
+            Err(fault) => Err(fault),
+        },
+        CallWord::WeightString => match weight_string(alloc, below, word, place) {
             Ok((operand, rest)) => Ok((operand, rest)),
             Err(fault) => Err(fault),
         },

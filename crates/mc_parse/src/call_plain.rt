@@ -134,7 +134,7 @@ pub(crate) fn plain<'a>(
 
 /// Two arguments of a call or more, of which the first is read.
 #[cycle(expr)]
-fn many<'a>(
+pub(crate) fn many<'a>(
     alloc: Global,
     below: usize,
     name: &[u8],

@@ -19,6 +19,7 @@ mod call_convert;
 mod call_plain;
 mod call_substring;
 mod call_trim;
+mod call_weight;
 mod clauses;
 mod comparison;
 mod fault;

@@ -14,11 +14,12 @@ use Rattle.mc_parse.proofs.MatchingWays.{matched_read, matched_missed, ranged_re
 use Rattle.mc_parse.proofs.MemberWays.{comma_link, commas_read, comma_missed, members_read, members_first_missed, members_more_missed, members_close_missed}
 use Rattle.mc_parse.specs.Calls.{IsCallFault, IsCallRead}
 use Rattle.mc_parse.proofs.CallSteps.{call_found}
-use Rattle.mc_parse.proofs.CallWays.{call_missed, call_unopened, call_deep, call_again, call_fails, opened_convert, opened_count, opened_other, convert_operand, convert_missed, star_read, star_unclosed, distinct_next, count_plain, distinct_read, distinct_missed, distinct_unclosed, empty_read, first_missed, first_read, single_read, not_single, opened_cast, opened_trim, opened_substring}
+use Rattle.mc_parse.proofs.CallWays.{call_missed, call_unopened, call_deep, call_again, call_fails, opened_convert, opened_count, opened_other, convert_operand, convert_missed, star_read, star_unclosed, distinct_next, count_plain, distinct_read, distinct_missed, distinct_unclosed, empty_read, first_missed, first_read, single_read, not_single, opened_cast, opened_trim, opened_substring, opened_weight_string}
 use Rattle.mc_parse.proofs.ArgumentWays.{ors_none, ors_link, ors_shorter, ors_missed, ors_all, or_pushed, comma_missed as argument_comma_missed, second_missed, others_missed, args_unclosed, args_read}
 use Rattle.mc_parse.proofs.CastWays.{cast_operand, cast_missed}
 use Rattle.mc_parse.proofs.TrimWays.{side_read, no_or_read, given_or_read, given_or_missed, removed_read, removed_missed, side_from_missed, side_text_missed, side_text_read, side_text_unclosed, both_from_missed, both_text_missed, both_text_read, both_text_unclosed, trim_empty, trim_operand, trim_first_missed, trim_from_next, trim_plain}
 use Rattle.mc_parse.proofs.SubstringWays.{no_length_read, length_read, length_missed, part_read, part_unclosed, part_missed, start_missed, start_read, substring_empty, substring_operand, substring_first_missed, substring_from_next, substring_plain}
+use Rattle.mc_parse.proofs.WeightWays.{weight_empty, weight_missed, weight_operand, weight_many, weight_alone}
 use Rattle.mc_ast.specs.declared.expr.Form.TheVariants as form
 use Rattle.mc_sql.specs.Classes as class
 use Rattle.mc_sql.specs.Rules as rule
@@ -910,3 +911,37 @@ call_substring::length_option-returns-in_ok-new-in-Ok-clause-ok t c =
 pub call_substring::length_option-returns-in-Err-clause-err : goal.call_substring::length_option-returns-in-Err-clause-err
 call_substring::length_option-returns-in-Err-clause-err t c =
     length_missed c.in-Some.ensures c.in-Err.ensures.err
+-- WEIGHT_STRING
+
+pub call::by_word-weight_string-requires : goal.call::by_word-weight_string-requires
+call::by_word-weight_string-requires t c =
+    (omega arith, opened_weight_string c.in-WeightString.is c.requires)
+
+pub call_weight::weight_string-returns-in-Ok-clause-ok : goal.call_weight::weight_string-returns-in-Ok-clause-ok
+call_weight::weight_string-returns-in-Ok-clause-ok t c =
+    call_found _ (weight_empty c.requires c.in-Ok.ensures.ok)
+    (c.whole.ensures
+    ∙ ap (λ z. whole c.in-Ok.span (form.Call z c.new-args.result)) c.in_ok-name.ensures
+    ∙ ap (λ z. whole c.in-Ok.span (form.Call (codes "weight_string") z)) c.new-args.ensures)
+
+pub call_weight::weight_string-cut_or_many-requires : goal.call_weight::weight_string-cut_or_many-requires
+call_weight::weight_string-cut_or_many-requires t c =
+    (omega arith, weight_operand c.requires c.in_default.ensures.err c.in-Ok-or.ensures.ok)
+
+pub call_weight::weight_string-returns-in-Err-clause-err : goal.call_weight::weight_string-returns-in-Err-clause-err
+call_weight::weight_string-returns-in-Err-clause-err t c =
+    weight_missed c.requires c.in_default.ensures.err c.in-Err.ensures.err
+
+pub call_weight::cut_or_many-many-requires : goal.call_weight::cut_or_many-many-requires
+call_weight::cut_or_many-many-requires t c =
+    (omega arith, weight_many c.requires c.in-Some.ensures)
+
+pub call_weight::cut_or_many-returns-in_ok-weighed-in-Ok-cut_closed-clause-ok : goal.call_weight::cut_or_many-returns-in_ok-weighed-in-Ok-cut_closed-clause-ok
+call_weight::cut_or_many-returns-in_ok-weighed-in-Ok-cut_closed-clause-ok t c =
+    call_found _ (c.in-Ok-cut_closed.ensures.ok _ (weight_alone c.requires c.in-None.ensures))
+    c.in_ok-weighed-in-Ok-cut_closed.ensures
+
+pub call_weight::cut_or_many-returns-in-Err-cut_closed-clause-err : goal.call_weight::cut_or_many-returns-in-Err-cut_closed-clause-err
+call_weight::cut_or_many-returns-in-Err-cut_closed-clause-err t c =
+    subst (λ f. IsCallFault c.args.below c.args.word.tokens.now f) (sym c.instead.ensures)
+    (c.in-Err-cut_closed.ensures.err _ (weight_alone c.requires c.in-None.ensures))

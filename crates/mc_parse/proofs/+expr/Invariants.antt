@@ -207,3 +207,8 @@ decreases-call_substring::length l = 64 * l.below + 66
 
 abbrev pub decreases-call_substring::length_option : goal.decreases-call_substring::length_option
 decreases-call_substring::length_option l = 64 * l.below + 62
+abbrev pub decreases-call_weight::weight_string : goal.decreases-call_weight::weight_string
+decreases-call_weight::weight_string l = 64 * l.below + 66
+
+abbrev pub decreases-call_weight::cut_or_many : goal.decreases-call_weight::cut_or_many
+decreases-call_weight::cut_or_many l = 64 * l.below + 65
