@@ -1,10 +1,12 @@
 pub mod TokenKinds
+pub mod CallKinds
 pub mod Spans
 pub mod Ways
 pub mod Folds
 pub mod Listing
 pub mod Groups
 pub mod NameWays
+pub mod StringWays
 pub mod OperatorWays
 pub mod TruthWays
 pub mod SaidWays

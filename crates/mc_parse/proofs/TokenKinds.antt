@@ -32,7 +32,7 @@ test_true : (b : Bool) → (IsTrue (not b) → ⊥) → IsTrue b
 test_true true h = refl
 test_true false h = absurd (h refl)
 
-test_false : (b : Bool) → (IsTrue b → ⊥) → IsTrue (not b)
+pub test_false : (b : Bool) → (IsTrue b → ⊥) → IsTrue (not b)
 test_false true h = absurd (h refl)
 test_false false h = refl
 
@@ -40,7 +40,7 @@ both_true : (a b : Bool) → IsTrue a → IsTrue b → IsTrue (a && b)
 both_true true b h k = k
 both_true false b h k = absurd (cc)
 
-both_parts : (a b : Bool) → IsTrue (a && b) → IsTrue a × IsTrue b
+pub both_parts : (a b : Bool) → IsTrue (a && b) → IsTrue a × IsTrue b
 both_parts true b h = (refl, h)
 both_parts false b h = absurd (cc)
 
@@ -53,7 +53,7 @@ not_both false h k = cc
 bytes_same : (a b : List ℕ) → a ≡ b → IsTrue (bytes_eq a b)
 bytes_same a b e = (bytes_eq-Decides a b).1 e
 
-same_bytes : (a b : List ℕ) → IsTrue (bytes_eq a b) → a ≡ b
+pub same_bytes : (a b : List ℕ) → IsTrue (bytes_eq a b) → a ≡ b
 same_bytes a b h = (bytes_eq-Decides a b).0 h
 
 -- A word that is spelled as no keyword is none.
@@ -110,7 +110,7 @@ kind_told (Sym symbol) (lexeme.Sym other) h =
 kind_told _ _ h = absurd h
 
 -- Each keyword is found by its spelling.
-keyword_of-text : (k : AKeyword) → keyword_of (keyword_text k) ≡ Some k
+pub keyword_of-text : (k : AKeyword) → keyword_of (keyword_text k) ≡ Some k
 unfolding keyword_of
 keyword_of-text keyword.Select = refl
 keyword_of-text keyword.Distinct = refl
@@ -157,7 +157,7 @@ keyword_of-text keyword.Substring = refl
 keyword_of-text keyword.WeightString = refl
 
 -- A word that is no keyword is spelled as none.
-otherwise_spelled : (w : List ℕ) (k : AKeyword) → IsTrue (is_none (keyword_of w))
+pub otherwise_spelled : (w : List ℕ) (k : AKeyword) → IsTrue (is_none (keyword_of w))
     → w ≡ keyword_text k → ⊥
 otherwise_spelled w k h e =
     not_both true refl

@@ -6,6 +6,7 @@ use Rattle.std.specs.Str.{bytes_eq}
 use Rattle.mc_base.specs.declared.span.Span.{Span}
 use Rattle.mc_token.specs.Keywords.{keyword_text, keyword_of, is_reserved}
 use Rattle.mc_token.specs.Marks.{mark_text}
+use Rattle.mc_token.specs.declared.keyword.Keyword.TheVariants.{Mod, Cast}
 use Rattle.mc_token.specs.declared.kind.TokenKind.{TokenKind}
 use Rattle.mc_token.specs.declared.kind.TokenKind.TheVariants.{Keyword, Introducer, Word, Name, Int}
 use Rattle.mc_token.specs.declared.kind.TokenKind.TheVariants.{Str, National, Hex, Sym}
@@ -66,6 +67,20 @@ is_name_kind (Some (Introducer set)) = true
 is_name_kind (Some Word) = true
 is_name_kind (Some Name) = true
 is_name_kind _ = false
+
+-- A token of the kind is an introducer.
+abbrev pub is_intro_kind : Option TokenKind → Bool
+is_intro_kind (Some (Introducer set)) = true
+is_intro_kind _ = false
+
+-- A token of the kind is the word of a call with its arguments alone.
+abbrev pub is_called_kind : Option TokenKind → Bool
+is_called_kind (Some (Keyword Mod)) = true
+is_called_kind (Some (Keyword Cast)) = false
+is_called_kind (Some (Keyword keyword)) = not (is_reserved keyword)
+is_called_kind (Some (Introducer set)) = true
+is_called_kind (Some Word) = true
+is_called_kind _ = false
 
 -- The next token has this lexeme, and the rest stands behind it.
 pub record IsNext (lexeme : Lexeme) (tokens rest : List Token) : Type 0 where

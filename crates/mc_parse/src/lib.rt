@@ -19,5 +19,6 @@ mod operators;
 mod place;
 mod predicate;
 mod primary;
+mod strings;
 
 pub use fault::ParseFault;

@@ -7,6 +7,8 @@ ghost use Rattle.mc_parse.specs.Place.{
   is_at,
   is_missing,
   is_name_kind,
+  is_intro_kind,
+  is_called_kind,
   span_at,
   text_at,
   number_at,
@@ -196,5 +198,85 @@ fn number_of(lexeme: &Lexeme) -> i64
     match lexeme {
         Lexeme::Int(number) => *number,
         _ => 0,
+    }
+}
+
+// What only strings and calls begin with.
+
+impl<'a> Place<'a> {
+    /// A string with `N` before it, if it is next, and the place behind it.
+    #[tactic(auto, using(crate::proofs::CallKinds::national_next, crate::proofs::CallKinds::national_missing))]
+    pub(crate) fn national(self) -> Option<(&'a [u8], Place<'a>)>
+        ensures { MatchOption result (IsTrue (is_missing class.national self.entry.tokens.now))
+            (λ found. IsNext (lexeme.National found.0.now) self.entry.tokens.now
+            found.1.tokens.now) }
+    {
+        if self.kind == Some(TokenKind::National) {
+            Some((self.text(), self.behind()))
+        } else {
+            None
+        }
+    }
+
+    /// The bytes of a hexadecimal literal, if it is next, and the place behind it.
+    #[tactic(auto, using(crate::proofs::CallKinds::hex_next, crate::proofs::CallKinds::hex_missing))]
+    pub(crate) fn hex(self) -> Option<(&'a [u8], Place<'a>)>
+        ensures { MatchOption result (IsTrue (is_missing class.hex self.entry.tokens.now))
+            (λ found. IsNext (lexeme.Hex found.0.now) self.entry.tokens.now found.1.tokens.now) }
+    {
+        if self.kind == Some(TokenKind::Hex) {
+            Some((self.text(), self.behind()))
+        } else {
+            None
+        }
+    }
+
+    /// An introducer with its `_`, if it is next, and the place behind it.
+    #[tactic(auto, using(crate::proofs::CallKinds::intro_next, crate::proofs::CallKinds::intro_missing))]
+    pub(crate) fn intro(self) -> Option<(&'a [u8], Place<'a>)>
+        ensures { MatchOption result (IsTrue (is_missing class.intro self.entry.tokens.now))
+            (λ found. IsTextOf class.intro self.entry.tokens.now found.1.tokens.now found.0.now) }
+    {
+        if is_intro(self.kind) {
+            Some((self.text(), self.behind()))
+        } else {
+            None
+        }
+    }
+
+    /// The word of a call with its arguments alone, if it is next, and the place behind it.
+    #[tactic(auto, using(crate::proofs::CallKinds::called_next, crate::proofs::CallKinds::called_missing))]
+    pub(crate) fn called(self) -> Option<(&'a [u8], Place<'a>)>
+        ensures { MatchOption result (IsTrue (is_missing class.called self.entry.tokens.now))
+            (λ found. IsTextOf class.called self.entry.tokens.now found.1.tokens.now found.0.now) }
+    {
+        if is_called(self.kind) {
+            Some((self.text(), self.behind()))
+        } else {
+            None
+        }
+    }
+}
+
+/// Whether a token of this kind is an introducer.
+fn is_intro(kind: Option<TokenKind>) -> bool
+    ensures { result ≡ is_intro_kind kind }
+{
+    match kind {
+        Some(TokenKind::Introducer(_)) => true,
+        _ => false,
+    }
+}
+
+/// Whether a token of this kind is the word of a call with its arguments alone.
+fn is_called(kind: Option<TokenKind>) -> bool
+    ensures { result ≡ is_called_kind kind }
+{
+    match kind {
+        Some(TokenKind::Keyword(Keyword::Mod)) => true,
+        Some(TokenKind::Keyword(Keyword::Cast)) => false,
+        Some(TokenKind::Keyword(keyword)) => !keyword.is_reserved(),
+        Some(TokenKind::Introducer(_) | TokenKind::Word) => true,
+        _ => false,
     }
 }
