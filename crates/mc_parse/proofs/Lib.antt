@@ -12,3 +12,5 @@ pub mod TruthWays
 pub mod SaidWays
 pub mod MatchingWays
 pub mod MemberWays
+pub mod PrimWays
+pub mod ColumnWays

@@ -7,3 +7,4 @@ pub mod Signs
 pub mod Comparisons
 pub mod Said
 pub mod Members
+pub mod Primary

@@ -14,6 +14,7 @@ mod comparison;
 mod fault;
 mod matching;
 mod members;
+mod opening;
 mod operand;
 mod operators;
 mod place;

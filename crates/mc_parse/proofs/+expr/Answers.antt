@@ -1,11 +1,13 @@
-use Rattle.std.proofs.Common.{◌-◌, refl, sym, subst, arith, rules}
+use Rattle.std.proofs.Common.{◌≡◌, suc, ◌-◌, refl, sym, ap, ◌∙◌, subst, arith, rules}
 use Rattle.std.specs.Prelude.{codes}
 use Rattle.std.proofs.lemmas.Grind.{common_steps}
 use Rattle.mc_ast.specs.declared.expr.Form.TheVariants as form
 use Rattle.mc_sql.specs.Classes as class
 use Rattle.mc_sql.specs.Rules as rule
 use Rattle.mc_parse.specs.Language.{behind, behind_at}
-use Rattle.mc_parse.specs.Read.{as_operand, IsFault}
+use Rattle.mc_ast.specs.Spans.{from_to}
+use Rattle.mc_parse.specs.Place.{span_at}
+use Rattle.mc_parse.specs.Read.{as_operand, IsFault, IsOperand}
 use Rattle.mc_parse.proofs.Ways.{link_shorter, begun}
 use Rattle.mc_parse.proofs.Folds.{folds_none}
 use Rattle.mc_parse.proofs.Listing.{lists_none, joins, appends_none}
@@ -14,6 +16,8 @@ use Rattle.mc_parse.proofs.TruthWays.{or_read, or_none, or_first_missed, or_more
 use Rattle.mc_parse.proofs.SaidWays.{sum_missed, comparing, compared_read, compared_missed, testing, matching, not_matching, listing, not_listing, ranging, not_ranging, just_read, denied_missed, said_missing}
 use Rattle.mc_parse.proofs.MatchingWays.{matched_read, matched_missed, ranged_read, ranged_first_missed, ranged_and_missed, ranged_last_missed, listed_read, listed_missed, listed_deep, listed_paren_missed}
 use Rattle.mc_parse.proofs.MemberWays.{comma_link, commas_read, comma_missed, members_read, members_first_missed, members_more_missed, members_close_missed}
+use Rattle.mc_parse.proofs.PrimWays.{call_read, call_missed}
+use Rattle.mc_parse.proofs.ColumnWays.{paren_read, inner_missed, close_missed, paren_deep}
 use Rattle.mc_parse.proofs.+expr.Goals as goal
 
 pub operators::coll-returns-in-Ok-more_collates-clause-ok : goal.operators::coll-returns-in-Ok-more_collates-clause-ok
@@ -566,3 +570,56 @@ members::push_ors-returns-in-Err-clause-err t c =
 pub members::push_ors-returns-clause-ok : goal.members::push_ors-returns-clause-ok
 members::push_ors-returns-clause-ok t c =
     commas_read _ _ _ _ _ c.loop-behind.invariant c.in_default.ensures
+
+pub primary::prim-returns-in-Ok-clause-ok : goal.primary::prim-returns-in-Ok-clause-ok
+primary::prim-returns-in-Ok-clause-ok t c =
+    call_read _ _ _ _ (sym c.begins_call.ensures ∙ c.if-begins_call.true) c.in-Ok.ensures.ok
+
+pub primary::prim-returns-in-Err-clause-err : goal.primary::prim-returns-in-Err-clause-err
+primary::prim-returns-in-Err-clause-err t c =
+    call_missed _ _ _ (sym c.begins_call.ensures ∙ c.if-begins_call.true) c.in-Err.ensures.err
+
+pub primary::prim-returns-then-below-eq0-clause-err :
+    goal.primary::prim-returns-then-below-eq0-clause-err
+primary::prim-returns-then-below-eq0-clause-err t c =
+    paren_deep _ _ _ _ (omega arith) c.in-Some.ensures c.left.ensures
+
+pub primary::prim-returns-in-Ok-in_parens-clause-ok :
+    goal.primary::prim-returns-in-Ok-in_parens-clause-ok
+primary::prim-returns-in-Ok-in_parens-clause-ok t c =
+    let e : suc (c.args.below - 1) ≡ c.args.below = omega arith in
+    subst (λ b. IsOperand rule.prim b c.args.place.tokens.now c.in-Ok-in_parens.rest.tokens.now
+    c.in-Ok-in_parens.operand) e c.in-Ok-in_parens.ensures.ok
+
+pub primary::prim-returns-in-Err-in_parens-clause-err :
+    goal.primary::prim-returns-in-Err-in_parens-clause-err
+primary::prim-returns-in-Err-in_parens-clause-err t c =
+    let e : suc (c.args.below - 1) ≡ c.args.below = omega arith in
+    subst (λ b. IsFault (behind rule.prim) rule.prim b c.args.place.tokens.now
+    c.in-Err-in_parens.fault) e c.in-Err-in_parens.ensures.err
+
+pub primary::prim-plain-requires : goal.primary::prim-plain-requires
+primary::prim-plain-requires t c =
+    record { no_call = sym c.begins_call.ensures ∙ c.if-begins_call.false; no_paren = c.in-None.ensures }
+
+pub primary::prim-returns-in-Ok-plain-clause-ok : goal.primary::prim-returns-in-Ok-plain-clause-ok
+primary::prim-returns-in-Ok-plain-clause-ok t c = c.in-Ok-plain.ensures.ok c.args.below
+
+pub primary::prim-returns-in-Err-plain-clause-err :
+    goal.primary::prim-returns-in-Err-plain-clause-err
+primary::prim-returns-in-Err-plain-clause-err t c = c.in-Err-plain.ensures.err c.args.below
+
+pub primary::in_parens-returns-in-Some-clause-ok : goal.primary::in_parens-returns-in-Some-clause-ok
+primary::in_parens-returns-in-Some-clause-ok t c =
+    paren_read _ _ _ _ _ _ _ _ c.requires c.in-Ok.ensures.ok c.in-Some.ensures
+    (c.from_to.ensures ∙ ap (λ s. from_to s c.span-in-Some.result) c.span.ensures
+    ∙ ap (λ s. from_to (span_at c.args.start.tokens.now) s) c.span-in-Some.ensures) c.widened.ensures
+
+pub primary::in_parens-returns-in-None-clause-err : goal.primary::in_parens-returns-in-None-clause-err
+primary::in_parens-returns-in-None-clause-err t c =
+    subst (λ f. IsFault (behind rule.prim) rule.prim (suc c.args.below) c.args.start.tokens.now f)
+    (sym c.instead.ensures)
+    (close_missed _ _ _ _ _ _ c.requires c.in-Ok.ensures.ok c.in-None.ensures c.left.ensures)
+
+pub primary::in_parens-returns-in-Err-clause-err : goal.primary::in_parens-returns-in-Err-clause-err
+primary::in_parens-returns-in-Err-clause-err t c = inner_missed _ _ _ _ c.requires c.in-Err.ensures.err

@@ -135,3 +135,6 @@ invariant-members::push_ors-loop-behind l =
 
 abbrev pub decreases-members::push_ors-loop-behind : goal.decreases-members::push_ors-loop-behind
 decreases-members::push_ors-loop-behind l = length l.place.tokens.now
+
+abbrev pub decreases-primary::in_parens : goal.decreases-primary::in_parens
+decreases-primary::in_parens l = 64 * l.below + 62
