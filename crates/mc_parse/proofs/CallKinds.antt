@@ -83,7 +83,7 @@ hex_missing (Some kind) (t ∷ ts) h ne =
     (λ m. ne (ap (λ x. Some x) (hex_kind kind t.kind h m)))
 
 -- No keyword is an introducer, and which of them begin a call.
-keyword_intro : (k : AKeyword) → false ≡ is_intro (keyword_text k)
+pub keyword_intro : (k : AKeyword) → false ≡ is_intro (keyword_text k)
 unfolding is_intro
 keyword_intro keyword.Select = refl
 keyword_intro keyword.Distinct = refl

@@ -29,3 +29,5 @@ pub mod CastWays
 pub mod TrimWays
 pub mod SubstringWays
 pub mod WeightWays
+pub mod PrimWays
+pub mod ColumnWays

@@ -86,7 +86,7 @@ said_token {first = first} {last = last} t p h = record {
   stands = stands_on first last t.span p.front (t ∷ []) p.stands p.some refl (omega arith);
 }
 
-start_kept : (s e : Span) (d : List Token) → from_to (span_from s d) e ≡ from_to s e
+pub start_kept : (s e : Span) (d : List Token) → from_to (span_from s d) e ≡ from_to s e
 start_kept s e [] = refl
 start_kept s e (t ∷ d) = refl
 

@@ -13,3 +13,4 @@ pub mod Calls
 pub mod Casts
 pub mod Parts
 pub mod Cuts
+pub mod Primary

@@ -129,7 +129,6 @@ fn by_word<'a>(
             Ok((operand, rest)) => Ok((operand, rest)),
             Err(fault) => Err(fault),
         },
-        _ => Err(Fault::NoMemory),
     }
 }
 

@@ -26,6 +26,7 @@ mod fault;
 mod laws;
 mod matching;
 mod members;
+mod opening;
 mod operand;
 mod operators;
 mod parser;

@@ -1,9 +1,11 @@
-use Rattle.std.proofs.Common.{◌-◌, refl, sym, ap, ◌∙◌, [], ◌∷◌, ◌++◌, subst, arith, rules}
+use Rattle.std.proofs.Common.{◌-◌, refl, sym, ap, ◌∙◌, [], ◌∷◌, ◌++◌, subst, arith, rules, ◌≡◌, suc}
 use Rattle.std.specs.Prelude.{codes}
 use Rattle.std.proofs.lemmas.Grind.{common_steps}
 use Rattle.mc_ast.specs.Grouping.{whole}
 use Rattle.mc_parse.specs.Language.{behind, behind_at}
-use Rattle.mc_parse.specs.Read.{as_operand, IsFault}
+use Rattle.mc_ast.specs.Spans.{from_to}
+use Rattle.mc_parse.specs.Place.{span_at}
+use Rattle.mc_parse.specs.Read.{as_operand, IsFault, IsOperand}
 use Rattle.mc_parse.proofs.Ways.{link_shorter, begun}
 use Rattle.mc_parse.proofs.Folds.{folds_none}
 use Rattle.mc_parse.proofs.Listing.{lists_none, joins, appends_none}
@@ -20,6 +22,8 @@ use Rattle.mc_parse.proofs.CastWays.{cast_operand, cast_missed}
 use Rattle.mc_parse.proofs.TrimWays.{side_read, no_or_read, given_or_read, given_or_missed, removed_read, removed_missed, side_from_missed, side_text_missed, side_text_read, side_text_unclosed, both_from_missed, both_text_missed, both_text_read, both_text_unclosed, trim_empty, trim_operand, trim_first_missed, trim_from_next, trim_plain}
 use Rattle.mc_parse.proofs.SubstringWays.{no_length_read, length_read, length_missed, part_read, part_unclosed, part_missed, start_missed, start_read, substring_empty, substring_operand, substring_first_missed, substring_from_next, substring_plain}
 use Rattle.mc_parse.proofs.WeightWays.{weight_empty, weight_missed, weight_operand, weight_many, weight_alone}
+use Rattle.mc_parse.proofs.PrimWays.{call_read, call_missed as prim_call_missed}
+use Rattle.mc_parse.proofs.ColumnWays.{paren_read, inner_missed, close_missed, paren_deep}
 use Rattle.mc_ast.specs.declared.expr.Form.TheVariants as form
 use Rattle.mc_sql.specs.Classes as class
 use Rattle.mc_sql.specs.Rules as rule
@@ -945,3 +949,56 @@ pub call_weight::cut_or_many-returns-in-Err-cut_closed-clause-err : goal.call_we
 call_weight::cut_or_many-returns-in-Err-cut_closed-clause-err t c =
     subst (λ f. IsCallFault c.args.below c.args.word.tokens.now f) (sym c.instead.ensures)
     (c.in-Err-cut_closed.ensures.err _ (weight_alone c.requires c.in-None.ensures))
+
+pub primary::prim-returns-in-Ok-clause-ok : goal.primary::prim-returns-in-Ok-clause-ok
+primary::prim-returns-in-Ok-clause-ok t c =
+    call_read _ _ _ _ (sym c.begins_call.ensures ∙ c.if-begins_call.true) c.in-Ok.ensures.ok
+
+pub primary::prim-returns-in-Err-clause-err : goal.primary::prim-returns-in-Err-clause-err
+primary::prim-returns-in-Err-clause-err t c =
+    prim_call_missed _ _ _ (sym c.begins_call.ensures ∙ c.if-begins_call.true) c.in-Err.ensures.err
+
+pub primary::prim-returns-then-below-eq0-clause-err :
+    goal.primary::prim-returns-then-below-eq0-clause-err
+primary::prim-returns-then-below-eq0-clause-err t c =
+    paren_deep _ _ _ _ (omega arith) c.in-Some.ensures c.left.ensures
+
+pub primary::prim-returns-in-Ok-in_parens-clause-ok :
+    goal.primary::prim-returns-in-Ok-in_parens-clause-ok
+primary::prim-returns-in-Ok-in_parens-clause-ok t c =
+    let e : suc (c.args.below - 1) ≡ c.args.below = omega arith in
+    subst (λ b. IsOperand rule.prim b c.args.place.tokens.now c.in-Ok-in_parens.rest.tokens.now
+    c.in-Ok-in_parens.operand) e c.in-Ok-in_parens.ensures.ok
+
+pub primary::prim-returns-in-Err-in_parens-clause-err :
+    goal.primary::prim-returns-in-Err-in_parens-clause-err
+primary::prim-returns-in-Err-in_parens-clause-err t c =
+    let e : suc (c.args.below - 1) ≡ c.args.below = omega arith in
+    subst (λ b. IsFault (behind rule.prim) rule.prim b c.args.place.tokens.now
+    c.in-Err-in_parens.fault) e c.in-Err-in_parens.ensures.err
+
+pub primary::prim-plain-requires : goal.primary::prim-plain-requires
+primary::prim-plain-requires t c =
+    record { no_call = sym c.begins_call.ensures ∙ c.if-begins_call.false; no_paren = c.in-None.ensures }
+
+pub primary::prim-returns-in-Ok-plain-clause-ok : goal.primary::prim-returns-in-Ok-plain-clause-ok
+primary::prim-returns-in-Ok-plain-clause-ok t c = c.in-Ok-plain.ensures.ok c.args.below
+
+pub primary::prim-returns-in-Err-plain-clause-err :
+    goal.primary::prim-returns-in-Err-plain-clause-err
+primary::prim-returns-in-Err-plain-clause-err t c = c.in-Err-plain.ensures.err c.args.below
+
+pub primary::in_parens-returns-in-Some-clause-ok : goal.primary::in_parens-returns-in-Some-clause-ok
+primary::in_parens-returns-in-Some-clause-ok t c =
+    paren_read _ _ _ _ _ _ _ _ c.requires c.in-Ok.ensures.ok c.in-Some.ensures
+    (c.from_to.ensures ∙ ap (λ s. from_to s c.span-in-Some.result) c.span.ensures
+    ∙ ap (λ s. from_to (span_at c.args.start.tokens.now) s) c.span-in-Some.ensures) c.widened.ensures
+
+pub primary::in_parens-returns-in-None-clause-err : goal.primary::in_parens-returns-in-None-clause-err
+primary::in_parens-returns-in-None-clause-err t c =
+    subst (λ f. IsFault (behind rule.prim) rule.prim (suc c.args.below) c.args.start.tokens.now f)
+    (sym c.instead.ensures)
+    (close_missed _ _ _ _ _ _ c.requires c.in-Ok.ensures.ok c.in-None.ensures c.left.ensures)
+
+pub primary::in_parens-returns-in-Err-clause-err : goal.primary::in_parens-returns-in-Err-clause-err
+primary::in_parens-returns-in-Err-clause-err t c = inner_missed _ _ _ _ c.requires c.in-Err.ensures.err

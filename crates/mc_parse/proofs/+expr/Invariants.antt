@@ -212,3 +212,6 @@ decreases-call_weight::weight_string l = 64 * l.below + 66
 
 abbrev pub decreases-call_weight::cut_or_many : goal.decreases-call_weight::cut_or_many
 decreases-call_weight::cut_or_many l = 64 * l.below + 65
+
+abbrev pub decreases-primary::in_parens : goal.decreases-primary::in_parens
+decreases-primary::in_parens l = 64 * l.below + 62

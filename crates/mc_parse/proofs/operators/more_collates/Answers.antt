@@ -5,8 +5,6 @@ use Rattle.mc_parse.specs.Read.{as_operand, IsFault}
 use Rattle.mc_parse.proofs.Ways.{link_shorter}
 use Rattle.mc_parse.proofs.Folds.{folds_none}
 use Rattle.mc_parse.proofs.OperatorWays.{collate_read, collates_read, collate_missed}
-use Rattle.mc_parse.proofs.MatchingWays.{listed_read}
-use Rattle.mc_parse.proofs.MemberWays.{commas_read}
 use Rattle.mc_parse.proofs.operators.more_collates.Goals as goal
 
 pub loop-behind-init : goal.loop-behind-init
