@@ -112,7 +112,7 @@ pub binary_read : (below : ℕ) (tokens rest : List Token) (text : List ℕ) (sp
 binary_read below tokens rest text span n made e =
     subst (λ (x : List ℕ). IsRead (behind rule.name_or_binary) 1 rule.name_or_binary below tokens
     rest (collation (record { name = x; extent = span })) span) (sym made)
-    (    subst (λ (x : Span). IsRead (behind rule.name_or_binary) 1 rule.name_or_binary below tokens
+    (subst (λ (x : Span). IsRead (behind rule.name_or_binary) 1 rule.name_or_binary below tokens
     rest (collation (record { name = codes "binary"; extent = x })) x)
     (sym (e ∙ ap span_at n.same))
     (subst (λ (x : List Token). IsRead (behind rule.name_or_binary) 1 rule.name_or_binary below x

@@ -223,7 +223,6 @@ or_link_missed alias below tokens rest v old now first last fault p n o =
     (or_link_missed_here alias below n.span v fault o)
     (look_word alias n.span (codes "or") v refl)
 
-
 -- AND
 
 and_means : (x y : Operand) (s : Span) (links : List Operand)
@@ -376,7 +375,6 @@ and_link_missed alias below tokens rest v old now first last fault p n o =
     (at below rule.more_nots) (λ xs. operands xs) p.links tokens p.front z) n.same p.chain)
     (and_link_missed_here alias below n.span v fault o)
     (look_word alias n.span (codes "and") v refl)
-
 
 -- XOR
 

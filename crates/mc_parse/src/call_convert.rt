@@ -20,12 +20,7 @@ use mc_token::Keyword;
 use std::alloc::Global;
 
 /// An operand in another set, as a call that stands at `span`.
-fn converted(
-    alloc: Global,
-    operand: Operand,
-    set: Text,
-    span: Span,
-) -> Result<Operand, NoMemory>
+fn converted(alloc: Global, operand: Operand, set: Text, span: Span) -> Result<Operand, NoMemory>
     ensures { IfOk result (λ x. as_operand x ≡ whole span (form.Convert operand.expr set)) }
 {
     let expr = Boxed::new(alloc, operand.expr)?;

@@ -67,11 +67,7 @@ fn more_collates<'a>(
 
 /// prim {COLLATE (NAME | BINARY)}
 #[cycle(expr)]
-fn coll<'a>(
-    alloc: Global,
-    below: usize,
-    place: Place<'a>,
-) -> Result<(Operand, Place<'a>), Fault>
+fn coll<'a>(alloc: Global, below: usize, place: Place<'a>) -> Result<(Operand, Place<'a>), Fault>
     ensures ok { IfOk result (λ found. IsOperand rule.coll below place.entry.tokens.now
         found.1.tokens.now found.0) }
     ensures err { IfErr result (λ fault. IsFault (behind rule.coll) rule.coll below
@@ -88,11 +84,7 @@ fn coll<'a>(
 
 /// - neg | coll
 #[cycle(expr)]
-fn neg<'a>(
-    alloc: Global,
-    below: usize,
-    place: Place<'a>,
-) -> Result<(Operand, Place<'a>), Fault>
+fn neg<'a>(alloc: Global, below: usize, place: Place<'a>) -> Result<(Operand, Place<'a>), Fault>
     ensures ok { IfOk result (λ found. IsOperand rule.neg below place.entry.tokens.now
         found.1.tokens.now found.0) }
     ensures err { IfErr result (λ fault. IsFault (behind rule.neg) rule.neg below
@@ -165,11 +157,7 @@ fn more_negs<'a>(
 
 /// neg {(* | DIV | % | MOD) neg}
 #[cycle(expr)]
-fn prod<'a>(
-    alloc: Global,
-    below: usize,
-    place: Place<'a>,
-) -> Result<(Operand, Place<'a>), Fault>
+fn prod<'a>(alloc: Global, below: usize, place: Place<'a>) -> Result<(Operand, Place<'a>), Fault>
     ensures ok { IfOk result (λ found. IsOperand rule.prod below place.entry.tokens.now
         found.1.tokens.now found.0) }
     ensures err { IfErr result (λ fault. IsFault (behind rule.prod) rule.prod below

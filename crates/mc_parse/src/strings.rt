@@ -95,10 +95,7 @@ fn introduced<'a>(
 }
 
 /// Str {Str} | National {Str} | Hex | INTRO Str {Str} | INTRO Hex
-pub(crate) fn string<'a>(
-    alloc: Global,
-    place: Place<'a>,
-) -> Result<(Operand, Place<'a>), Fault>
+pub(crate) fn string<'a>(alloc: Global, place: Place<'a>) -> Result<(Operand, Place<'a>), Fault>
     ensures ok { IfOk result (λ found. (below : ℕ) → IsOperand rule.string below
         place.entry.tokens.now found.1.tokens.now found.0) }
     ensures err { IfErr result (λ fault. (below : ℕ) → IsFault (behind rule.string) rule.string
@@ -118,7 +115,10 @@ pub(crate) fn string<'a>(
         };
     }
     if let Some((bytes, rest)) = place.hex() {
-        return Ok((whole(span, Form::Hex(Text::from_slice(alloc, bytes)?)), rest));
+        return Ok((
+            whole(span, Form::Hex(Text::from_slice(alloc, bytes)?)),
+            rest,
+        ));
     }
     match place.intro() {
         Some((word, rest)) => match introduced(alloc, place, word, rest) {

@@ -579,6 +579,7 @@ members::push_ors-returns-in-Err-clause-err t c =
 pub members::push_ors-returns-clause-ok : goal.members::push_ors-returns-clause-ok
 members::push_ors-returns-clause-ok t c =
     commas_read _ _ _ _ _ c.loop-behind.invariant c.in_default.ensures
+
 pub call::call-returns-in_default-clause-err : goal.call::call-returns-in_default-clause-err
 call::call-returns-in_default-clause-err t c =
     call_missed _ _ _ c.in_default.ensures.0 c.in_default.ensures.1 c.left.ensures
@@ -746,6 +747,7 @@ call_cast::cast-returns-in-Err-cast_target-clause-err t c =
 
 pub call_cast::cast-returns-in-Err-clause-err : goal.call_cast::cast-returns-in-Err-clause-err
 call_cast::cast-returns-in-Err-clause-err t c = cast_missed c.requires c.in-Err.ensures.err
+
 pub call::by_word-trim-requires : goal.call::by_word-trim-requires
 call::by_word-trim-requires t c = (omega arith, opened_trim c.in-Trim.is c.requires)
 
@@ -915,6 +917,7 @@ call_substring::length_option-returns-in_ok-new-in-Ok-clause-ok t c =
 pub call_substring::length_option-returns-in-Err-clause-err : goal.call_substring::length_option-returns-in-Err-clause-err
 call_substring::length_option-returns-in-Err-clause-err t c =
     length_missed c.in-Some.ensures c.in-Err.ensures.err
+
 -- WEIGHT_STRING
 
 pub call::by_word-weight_string-requires : goal.call::by_word-weight_string-requires

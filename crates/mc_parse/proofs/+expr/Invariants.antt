@@ -136,6 +136,7 @@ invariant-members::push_ors-loop-behind l =
 
 abbrev pub decreases-members::push_ors-loop-behind : goal.decreases-members::push_ors-loop-behind
 decreases-members::push_ors-loop-behind l = length l.place.tokens.now
+
 abbrev pub decreases-call::by_word : goal.decreases-call::by_word
 decreases-call::by_word l = 64 * l.below + 70
 
@@ -175,6 +176,7 @@ decreases-arguments::more_ors-loop-behind l = length l.place.tokens.now
 
 abbrev pub decreases-call_cast::cast : goal.decreases-call_cast::cast
 decreases-call_cast::cast l = 64 * l.below + 62
+
 abbrev pub decreases-call_trim::trim : goal.decreases-call_trim::trim
 decreases-call_trim::trim l = 64 * l.below + 69
 
@@ -207,6 +209,7 @@ decreases-call_substring::length l = 64 * l.below + 66
 
 abbrev pub decreases-call_substring::length_option : goal.decreases-call_substring::length_option
 decreases-call_substring::length_option l = 64 * l.below + 62
+
 abbrev pub decreases-call_weight::weight_string : goal.decreases-call_weight::weight_string
 decreases-call_weight::weight_string l = 64 * l.below + 66
 
