@@ -1,0 +1,10 @@
+//! Types of statements.
+#![tactic(auto)]
+
+mod fault;
+mod session;
+mod typed;
+
+pub use fault::TypeFault;
+pub use session::Session;
+pub use typed::{AggName, Func, Node, Ty, Typed, TypedExpr, TypedOrder};
