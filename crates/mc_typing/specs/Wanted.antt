@@ -1,5 +1,5 @@
 -- What a call gives, beside what the definitions say.
-use Rattle.std.specs.Prelude.{◌≡◌, Result, Ok, Err, Unit}
+use Rattle.std.specs.Prelude.{◌≡◌, Result, Ok, Err}
 use Rattle.mc_base.specs.declared.no_memory.NoMemory.{NoMemory as Lack}
 use Rattle.mc_base.specs.declared.refusal.Refusal.{Refusal}
 use Rattle.mc_typing.specs.declared.fault.TypeFault.{TypeFault}

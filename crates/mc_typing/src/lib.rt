@@ -1,7 +1,9 @@
 //! Types of statements.
 #![tactic(auto)]
 
+mod callee;
 mod fault;
+mod scope;
 mod session;
 mod typed;
 
