@@ -76,18 +76,22 @@ abbrev pub shown_operand : Catalog → Operand → List ℕ
 shown_operand c a = codes "(" ++ (collation_name c a.collation.0 ++ (codes ","
     ++ (level_word a.level ++ codes ")")))
 
+-- The operation at the end of such a message.
+abbrev pub operation_end : List ℕ → List ℕ
+operation_end op = codes " for operation '" ++ (op ++ codes "'")
+
 -- Operands that take part have no collation together in this operation.
 abbrev pub mix_of : Catalog → List ℕ → List Operand → Refusal
 mix_of c op (a ∷ b ∷ []) = record {
   number = 1267;
   text = codes "Illegal mix of collations " ++ (shown_operand c a ++ (codes " and "
-      ++ (shown_operand c b ++ (codes " for operation '" ++ (op ++ codes "'")))));
+      ++ (shown_operand c b ++ operation_end op)));
 }
 mix_of c op (a ∷ b ∷ d ∷ []) = record {
   number = 1270;
   text = codes "Illegal mix of collations " ++ (shown_operand c a ++ (codes ", "
       ++ (shown_operand c b ++ (codes ", " ++ (shown_operand c d
-      ++ (codes " for operation '" ++ (op ++ codes "'")))))));
+      ++ operation_end op)))));
 }
 mix_of c op operands = naming 1271 "Illegal mix of collations for operation '" op "'"
 

@@ -1,7 +1,7 @@
 -- Expressions as operands of an operation on texts: MySQL 8.0 manual, 10.8.4 and 10.2.1.
 use Rattle.std.specs.Prelude.{◌≡◌, ℕ, ◌<◌, Bool, true, false, not, ◌&&◌, ◌||◌, List, [], ◌∷◌}
 use Rattle.std.specs.Prelude.{Option, Some, None, length, map, nat_lt, nat_le, unwrap_or}
-use Rattle.std.specs.Prelude.{if◌then◌else◌}
+use Rattle.std.specs.Prelude.{if◌then◌else◌, All}
 use Rattle.std.specs.List.{find, list_all}
 use Rattle.std.specs.Option.{is_some}
 use Rattle.mc_charset.specs.Chars.{chars, spell}
@@ -19,7 +19,8 @@ use Rattle.mc_coerce.specs.Aggregate.{of_bin}
 use Rattle.mc_coerce.specs.Levels.{explicit, implicit, coercible, numeric, ignorable}
 use Rattle.mc_coerce.specs.Operand.{IsOperand, built_in_count}
 use Rattle.mc_coerce.specs.declared.operand.Operand.{Operand}
-use Rattle.mc_catalog.specs.LookUp.{collation_set, number_of, usual_name}
+use Rattle.mc_catalog.specs.LookUp.{collation_set, number_of, set_at, usual_name}
+use Rattle.mc_catalog.specs.declared.catalog.CollDecl.{CollDecl}
 use Rattle.mc_catalog.specs.declared.catalog.Catalog.{Catalog}
 use Rattle.mc_typing.specs.declared.scope.Scope.{Scope}
 use Rattle.mc_typing.specs.declared.typed.Ty.{Ty}
@@ -27,15 +28,19 @@ use Rattle.mc_typing.specs.declared.typed.Ty.TheVariants.{Null, Int, Str}
 use Rattle.mc_typing.specs.declared.typed.TypedExpr.{TypedExpr}
 use Rattle.mc_typing.specs.Scope.{connection_set}
 
+-- The class has this character.
+abbrev pub has : Repertoire → ℕ → Bool
+has Ascii code = nat_lt code 0x80
+has Latin1 code = is_some (spell SetLatin1 code)
+has Bmp code = nat_lt code 0x10000
+has class code = true
+
 -- The class has this character of a text in the set. Of bytes, Bytes has all and the other classes
 -- those below 80.
 abbrev pub has_in : Charset → Repertoire → ℕ → Bool
 has_in Binary Bytes byte = true
 has_in Binary class byte = nat_lt byte 0x80
-has_in set Ascii code = nat_lt code 0x80
-has_in set Latin1 code = is_some (spell SetLatin1 code)
-has_in set Bmp code = nat_lt code 0x10000
-has_in set class code = true
+has_in set class code = has class code
 
 -- The repertoire of a text: the first class of the chain that has each of its characters.
 unfoldable pub repertoire_in : Charset → List ℕ → Repertoire
@@ -45,14 +50,16 @@ repertoire_in set text =
 
 -- The number of a set's usual collation: the one of the usual name, where it has that set, else the
 -- binary one.
-abbrev pub usual_if : Charset → Charset → ℕ → ℕ
-usual_if set found place = if same_set found set then place else bin_number set
+abbrev pub usual_at : Charset → ℕ → Option Charset → ℕ
+usual_at set place None = bin_number set
+usual_at set place (Some found) = if same_set found set then place else bin_number set
+
+abbrev pub usual_in : List CollDecl → Charset → Option ℕ → ℕ
+usual_in collations set None = bin_number set
+usual_in collations set (Some place) = usual_at set place (set_at collations place)
 
 unfoldable pub usual : Catalog → Charset → ℕ
-usual c set = elim (number_of c.collations (usual_name set)) [
-  | None ↦ bin_number set
-  | Some place ↦ usual_if set (collation_set c.collations place) place
-]
+usual c set = usual_in c.collations set (number_of c.collations (usual_name set))
 
 -- An operand of a collation.
 abbrev pub of_collation : Charset → CollId → ℕ → Repertoire → Operand
@@ -121,3 +128,7 @@ pub record IsTextOf (c : Catalog) (operand : Operand) : Type 0 where
 abbrev pub IsTyOf : Catalog → Ty → Type 0
 IsTyOf c (Str operand) = IsTextOf c operand
 IsTyOf c ty = Unit {0}
+
+-- Each of the expressions has such a type.
+abbrev pub AreTyped : Catalog → List TypedExpr → Type 0
+AreTyped c xs = All (λ x. IsTyOf c x.ty) xs

@@ -2,7 +2,12 @@
 #![tactic(auto)]
 
 mod callee;
+mod columns;
 mod fault;
+mod literals;
+mod messages;
+mod names;
+mod operands;
 mod scope;
 mod session;
 mod typed;

@@ -1,0 +1,3 @@
+pub mod Repertoires
+pub mod Usual
+pub mod Scopes
