@@ -1,3 +1,4 @@
 pub mod Repertoires
 pub mod Usual
 pub mod Scopes
+pub mod Sound

@@ -1,9 +1,8 @@
 -- The usual collation of a set as a number, and its set.
 use Rattle.std.proofs.Common.{◌≡◌, ℕ, suc, zero, ◌≤◌, ◌<◌, Bool, true, false, cond, List, [], ◌∷◌, ◌++◌, Option, None, Some, length, codes, drop, refl, sym, ap, ◌∙◌, subst, arith}
 use Rattle.std.proofs.lemmas.List.{take-append-drop}
-use Rattle.std.specs.Prelude.{◌≢◌, IsTrue, MatchOption, position, slice_get}
+use Rattle.std.specs.Prelude.{◌≢◌, ◌↔◌, IsTrue, MatchOption, position, slice_get}
 use Rattle.std.specs.Str.{bytes_eq}
-use Rattle.mc_charset.proofs.SetNames.{same_set_one}
 use Rattle.mc_charset.specs.Names.{bin_name, bin_number, built_in_names, same_set}
 use Rattle.mc_charset.specs.declared.charset.Charset.{Charset}
 use Rattle.mc_charset.specs.declared.charset.Charset.TheVariants.{Latin1, Ascii, Utf8mb3, Utf8mb4, Ucs2, Utf16, Utf32, Binary}
@@ -26,15 +25,15 @@ placed_at : (n : ℕ) (own name : List ℕ) → placed own ≡ Some n → Some o
 placed_at n own name e f = subst (λ m. placed m ≡ Some n) (some_one own name f) e
 
 placed_own : (n : ℕ) (name : List ℕ) → slice_get built_in_names n ≡ Some name → placed name ≡ Some n
-placed_own 0 name e = placed_at 0 (bin_name Binary) name refl e
-placed_own 1 name e = placed_at 1 (bin_name Latin1) name refl e
-placed_own 2 name e = placed_at 2 (bin_name Ascii) name refl e
-placed_own 3 name e = placed_at 3 (bin_name Utf8mb3) name refl e
-placed_own 4 name e = placed_at 4 (bin_name Utf8mb4) name refl e
-placed_own 5 name e = placed_at 5 (bin_name Ucs2) name refl e
-placed_own 6 name e = placed_at 6 (bin_name Utf16) name refl e
-placed_own 7 name e = placed_at 7 (bin_name Utf32) name refl e
-placed_own 8 name e = placed_at 8 (codes "utf8mb4_0900_bin") name refl e
+placed_own zero name e = placed_at 0 (bin_name Binary) name refl e
+placed_own (suc zero) name e = placed_at 1 (bin_name Latin1) name refl e
+placed_own (suc (suc zero)) name e = placed_at 2 (bin_name Ascii) name refl e
+placed_own (suc (suc (suc zero))) name e = placed_at 3 (bin_name Utf8mb3) name refl e
+placed_own (suc (suc (suc (suc zero)))) name e = placed_at 4 (bin_name Utf8mb4) name refl e
+placed_own (suc (suc (suc (suc (suc zero))))) name e = placed_at 5 (bin_name Ucs2) name refl e
+placed_own (suc (suc (suc (suc (suc (suc zero)))))) name e = placed_at 6 (bin_name Utf16) name refl e
+placed_own (suc (suc (suc (suc (suc (suc (suc zero))))))) name e = placed_at 7 (bin_name Utf32) name refl e
+placed_own (suc (suc (suc (suc (suc (suc (suc (suc zero)))))))) name e = placed_at 8 (codes "utf8mb4_0900_bin") name refl e
 placed_own (suc (suc (suc (suc (suc (suc (suc (suc (suc n))))))))) name e = cc
 
 placed_bin : (set : Charset) → placed (bin_name set) ≡ Some (bin_number set)
@@ -52,31 +51,39 @@ bin_is set n e =
     some_one n (bin_number set) (sym (placed_own n (bin_name set) e) ∙ placed_bin set)
 
 -- The usual collation
-with_test : (set found : Charset) (n place : ℕ) (b : Bool) → same_set found set ≡ b
+-- Sets are one where they have one name.
+abbrev AreNamed : Type 0
+AreNamed = (set other : Charset) → IsTrue (same_set set other) ↔ (set ≡ other)
+
+not_both : (b : Bool) → b ≡ false → IsTrue b → ⊥
+not_both true e t = absurd (cc)
+not_both false e t = cc
+
+with_test : AreNamed → (set found : Charset) (n place : ℕ) (b : Bool) → same_set found set ≡ b
     → (Some found ≡ Some set → n ≡ place) × (Some found ≢ Some set → IsBinOf set n)
     → n ≡ cond b place (bin_number set)
-with_test set found n place true e h = h.0 (ap Some ((same_set_one found set).0 e))
-with_test set found n place false e h =
-    bin_is set n (h.1 (λ f. absurd (cc)))
+with_test named set found n place true e h = h.0 (ap Some ((named found set).0 e))
+with_test named set found n place false e h = bin_is set n (h.1 (λ f.
+    not_both (same_set found set) e ((named found set).1 (some_one found set f))))
 
-at_place : (set : Charset) (n place : ℕ) (found : Option Charset)
+at_place : AreNamed → (set : Charset) (n place : ℕ) (found : Option Charset)
     → (found ≡ Some set → n ≡ place) × (found ≢ Some set → IsBinOf set n)
     → n ≡ usual_at set place found
-at_place set n place None h = bin_is set n (h.1 (λ e. cc))
-at_place set n place (Some found) h = with_test set found n place (same_set found set) refl h
+at_place named set n place None h = bin_is set n (h.1 (λ e. cc))
+at_place named set n place (Some found) h = with_test named set found n place (same_set found set) refl h
 
-of_named : (collations : List CollDecl) (set : Charset) (n : ℕ) (found : Option ℕ)
+of_named : AreNamed → (collations : List CollDecl) (set : Charset) (n : ℕ) (found : Option ℕ)
     → MatchOption found (IsBinOf set n)
     (λ place. (set_at collations place ≡ Some set → n ≡ place)
     × (set_at collations place ≢ Some set → IsBinOf set n))
     → n ≡ usual_in collations set found
-of_named collations set n None h = bin_is set n h
-of_named collations set n (Some place) h = at_place set n place (set_at collations place) h
+of_named named collations set n None h = bin_is set n h
+of_named named collations set n (Some place) h = at_place named set n place (set_at collations place) h
 
-pub usual_is : (c : Catalog) (set : Charset) (n : ℕ) → IsUsual c.collations set n → n ≡ usual c set
+pub usual_is : AreNamed → (c : Catalog) (set : Charset) (n : ℕ) → IsUsual c.collations set n → n ≡ usual c set
 unfolding usual
-usual_is c set n h =
-    of_named c.collations set n (number_of c.collations (usual_name set)) h
+usual_is named c set n h =
+    of_named named c.collations set n (number_of c.collations (usual_name set)) h
 
 -- The built-in collations have their sets.
 front_set : (others : List CollDecl) (set : Charset)

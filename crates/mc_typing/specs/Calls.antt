@@ -57,15 +57,26 @@ abbrev pub text_call : Catalog → Func → List ℕ → List TypedExpr → Resu
 text_call c function name xs = result_and_then (λ a.
     Ok (record { node = Call function (Some a) xs; ty = Str (made_of a) })) (together c name ToText xs)
 
+-- STRCMP.
+abbrev pub strcmp : Catalog → List ℕ → List TypedExpr → Result TypedExpr Refusal
+strcmp c name xs = result_and_then (λ a. Ok (number_expr (Call Strcmp (Some a) xs)))
+    (together c name ToCompare xs)
+
+-- A call without an aggregate of its texts.
+abbrev pub plain_call : Func → Ty → List TypedExpr → TypedExpr
+plain_call function ty xs = record { node = Call function None xs; ty = ty }
+
+-- The type of HEX.
+abbrev pub digits_ty : Catalog → Scope → Ty
+digits_ty c s = Str (of_connection c s coercible Ascii)
+
 -- A call whose arguments have kinds that it takes.
 abbrev pub fitted : Catalog → Scope → Func → List ℕ → List TypedExpr → Result TypedExpr Refusal
-fitted c s Strcmp name xs = result_and_then (λ a. Ok (number_expr (Call Strcmp (Some a) xs)))
-    (together c name ToCompare xs)
-fitted c s CharLength name xs = Ok (number_expr (Call CharLength None xs))
-fitted c s Length name xs = Ok (number_expr (Call Length None xs))
-fitted c s Mod name xs = Ok (number_expr (Call Mod None xs))
-fitted c s Hex name xs =
-    Ok (record { node = Call Hex None xs; ty = Str (of_connection c s coercible Ascii) })
+fitted c s Strcmp name xs = strcmp c name xs
+fitted c s CharLength name xs = Ok (plain_call CharLength Int xs)
+fitted c s Length name xs = Ok (plain_call Length Int xs)
+fitted c s Mod name xs = Ok (plain_call Mod Int xs)
+fitted c s Hex name xs = Ok (plain_call Hex (digits_ty c s) xs)
 fitted c s function name xs = text_call c function name xs
 
 -- A call of a function of values.

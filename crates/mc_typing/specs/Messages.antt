@@ -32,13 +32,16 @@ no_set name = naming 1115 "Unknown character set: '" name "'"
 abbrev pub no_collation : List ℕ → Refusal
 no_collation name = naming 1273 "Unknown collation: '" name "'"
 
--- The collation of this name has another set than the text.
-abbrev pub other_set : List ℕ → Charset → Refusal
-other_set name set = record {
+-- The collation of this name has another set than the text, by that set's name.
+abbrev pub other_set_named : List ℕ → List ℕ → Refusal
+other_set_named name set = record {
   number = 1253;
   text = codes "COLLATION '" ++ (name ++ (codes "' is not valid for CHARACTER SET '"
-      ++ (name_of set ++ codes "'")));
+      ++ (set ++ codes "'")));
 }
+
+abbrev pub other_set : List ℕ → Charset → Refusal
+other_set name set = other_set_named name (name_of set)
 
 -- The bytes behind an introducer are no text of its set.
 abbrev pub bad_string : Charset → Refusal

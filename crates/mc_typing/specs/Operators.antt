@@ -45,13 +45,20 @@ some_text xs = list_any (λ x. is_text x.ty) xs
 abbrev pub some_number : List TypedExpr → Bool
 some_number xs = list_any (λ x. is_number x.ty) xs
 
--- An operation on numbers, NULL among them.
+-- The operands are numbers, NULL among them; else the operation is refused.
+abbrev pub need_numbers : List ℕ → List TypedExpr → Result Unit Refusal
+need_numbers op xs = if some_text xs then Err (wrong_argument op) else Ok tt
+
+abbrev pub need_number : List ℕ → TypedExpr → Result Unit Refusal
+need_number op x = if is_text x.ty then Err (wrong_argument op) else Ok tt
+
+-- An operation on numbers.
 abbrev pub of_numbers : List ℕ → Node → List TypedExpr → Result TypedExpr Refusal
-of_numbers op node xs = if some_text xs then Err (wrong_argument op) else Ok (number_expr node)
+of_numbers op node xs = result_and_then (λ _. Ok (number_expr node)) (need_numbers op xs)
 
 -- An operation on one number.
 abbrev pub of_one_number : List ℕ → Node → TypedExpr → Result TypedExpr Refusal
-of_one_number op node x = if is_text x.ty then Err (wrong_argument op) else Ok (number_expr node)
+of_one_number op node x = result_and_then (λ _. Ok (number_expr node)) (need_number op x)
 
 -- What operands have together, or the refusal of their mix.
 abbrev pub used : Refusal → Agg → Result Operand Refusal

@@ -2,12 +2,15 @@
 #![tactic(auto)]
 
 mod callee;
+mod calls;
 mod columns;
+mod conversions;
 mod fault;
 mod literals;
 mod messages;
 mod names;
 mod operands;
+mod operators;
 mod scope;
 mod session;
 mod typed;

@@ -13,11 +13,12 @@ ghost use Rattle.mc_typing.specs.Messages.{
   no_table,
   operation_end,
   other_set,
+  other_set_named,
   shown_operand,
   wrong_argument,
   wrong_count,
 };
-ghost use Rattle.std.specs.Prelude.{◌≡◌, [], ◌∷◌, ◌++◌, IfOk, OnOk};
+ghost use Rattle.std.specs.Prelude.{◌≡◌, [], ◌∷◌, ◌++◌, IfOk};
 
 use mc_base::{List, NoMemory, Refusal, Text};
 use mc_catalog::Catalog;
@@ -32,6 +33,26 @@ fn joined(alloc: Global, before: &[u8], name: &[u8], behind: &[u8]) -> Result<Te
     let mut text = Text::from_slice(alloc, before)?;
     text.extend_from_slice(name)?;
     text.extend_from_slice(behind)?;
+    Ok(text)
+}
+
+/// A text of these five parts.
+fn joined_five(
+    alloc: Global,
+    first: &[u8],
+    name: &[u8],
+    middle: &[u8],
+    other: &[u8],
+    last: &[u8],
+) -> Result<Text, NoMemory>
+    ensures { IfOk result (λ text.
+        text ≡ first.now ++ (name.now ++ (middle.now ++ (other.now ++ last.now)))) }
+{
+    let mut text = Text::from_slice(alloc, first)?;
+    text.extend_from_slice(name)?;
+    text.extend_from_slice(middle)?;
+    text.extend_from_slice(other)?;
+    text.extend_from_slice(last)?;
     Ok(text)
 }
 
@@ -71,11 +92,20 @@ pub(crate) fn no_collation(alloc: Global, name: &[u8]) -> Result<Refusal, NoMemo
 pub(crate) fn other_set(alloc: Global, name: &[u8], set: Charset) -> Result<Refusal, NoMemory>
     ensures { IfOk result (λ refusal. refusal ≡ other_set name.now set) }
 {
-    let mut text = Text::from_slice(alloc, b"COLLATION '")?;
-    text.extend_from_slice(name)?;
-    text.extend_from_slice(b"' is not valid for CHARACTER SET '")?;
-    text.extend_from_slice(charset_name(set).as_bytes())?;
-    text.extend_from_slice(b"'")?;
+    other_set_named(alloc, name, charset_name(set).as_bytes())
+}
+
+fn other_set_named(alloc: Global, name: &[u8], set: &[u8]) -> Result<Refusal, NoMemory>
+    ensures { IfOk result (λ refusal. refusal ≡ other_set_named name.now set.now) }
+{
+    let text = joined_five(
+        alloc,
+        b"COLLATION '",
+        name,
+        b"' is not valid for CHARACTER SET '",
+        set,
+        b"'",
+    )?;
     Ok(Refusal { number: 1253, text })
 }
 
@@ -146,26 +176,25 @@ pub(crate) fn collation_name(c: &Catalog, id: CollId) -> &[u8]
     }
 }
 
-/// Appends the collation of an operand and the word for its level.
-fn push_operand(text: &mut Text, c: &Catalog, a: &Operand) -> Result<(), NoMemory>
-    ensures { OnOk result (text.new ≡ text.old ++ shown_operand c.now a.now) }
+/// An operand in a message: its collation, and the word for its level.
+fn shown_operand(alloc: Global, c: &Catalog, a: &Operand) -> Result<Text, NoMemory>
+    ensures { IfOk result (λ text. text ≡ shown_operand c.now a.now) }
 {
-    text.extend_from_slice(b"(")?;
-    text.extend_from_slice(collation_name(c, a.collation))?;
-    text.extend_from_slice(b",")?;
-    text.extend_from_slice(level_word(a.level))?;
-    text.extend_from_slice(b")")?;
-    Ok(())
+    joined_five(
+        alloc,
+        b"(",
+        collation_name(c, a.collation),
+        b",",
+        level_word(a.level),
+        b")",
+    )
 }
 
-/// Appends the operation and the end of the text of a mix.
-fn push_operation(text: &mut Text, op: &[u8]) -> Result<(), NoMemory>
-    ensures { OnOk result (text.new ≡ text.old ++ operation_end op.now) }
+/// The operation at the end of such a message.
+fn operation_end(alloc: Global, op: &[u8]) -> Result<Text, NoMemory>
+    ensures { IfOk result (λ text. text ≡ operation_end op.now) }
 {
-    text.extend_from_slice(b" for operation '")?;
-    text.extend_from_slice(op)?;
-    text.extend_from_slice(b"'")?;
-    Ok(())
+    joined(alloc, b" for operation '", op, b"'")
 }
 
 fn mix_of_two(
@@ -177,11 +206,14 @@ fn mix_of_two(
 ) -> Result<Refusal, NoMemory>
     ensures { IfOk result (λ refusal. refusal ≡ mix_of c.now op.now (a.now ∷ b.now ∷ [])) }
 {
-    let mut text = Text::from_slice(alloc, b"Illegal mix of collations ")?;
-    push_operand(&mut text, c, a)?;
-    text.extend_from_slice(b" and ")?;
-    push_operand(&mut text, c, b)?;
-    push_operation(&mut text, op)?;
+    let text = joined_five(
+        alloc,
+        b"Illegal mix of collations ",
+        shown_operand(alloc, c, a)?.as_slice(),
+        b" and ",
+        shown_operand(alloc, c, b)?.as_slice(),
+        operation_end(alloc, op)?.as_slice(),
+    )?;
     Ok(Refusal { number: 1267, text })
 }
 
@@ -196,13 +228,20 @@ fn mix_of_three(
     ensures { IfOk result (λ refusal.
         refusal ≡ mix_of c.now op.now (a.now ∷ b.now ∷ d.now ∷ [])) }
 {
-    let mut text = Text::from_slice(alloc, b"Illegal mix of collations ")?;
-    push_operand(&mut text, c, a)?;
-    text.extend_from_slice(b", ")?;
-    push_operand(&mut text, c, b)?;
-    text.extend_from_slice(b", ")?;
-    push_operand(&mut text, c, d)?;
-    push_operation(&mut text, op)?;
+    let last = joined(
+        alloc,
+        b", ",
+        shown_operand(alloc, c, d)?.as_slice(),
+        operation_end(alloc, op)?.as_slice(),
+    )?;
+    let text = joined_five(
+        alloc,
+        b"Illegal mix of collations ",
+        shown_operand(alloc, c, a)?.as_slice(),
+        b", ",
+        shown_operand(alloc, c, b)?.as_slice(),
+        last.as_slice(),
+    )?;
     Ok(Refusal { number: 1270, text })
 }
 

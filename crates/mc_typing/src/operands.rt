@@ -23,7 +23,7 @@ ghost use Rattle.std.specs.Prelude.{◌≡◌, ◌<◌, ◌≤◌, length};
 use crate::scope::Scope;
 use crate::typed::Ty;
 use mc_catalog::{Catalog, collation_set, default_of};
-use mc_charset::{Charset, CollId};
+use mc_charset::{Charset, CollId, set_names_law};
 use mc_coerce::{IGNORABLE, NUMERIC, Operand};
 use mc_convert::{Repertoire, repertoire_of};
 
@@ -34,7 +34,6 @@ const BUILT_IN_COUNT: u32 = 9;
 pub(crate) const BINARY: CollId = CollId(0);
 
 /// The class of all characters of the text.
-#[tactic(auto, using(crate::proofs::Repertoires::repertoire_is))]
 pub(crate) fn repertoire_in(set: Charset, text: &[u8]) -> Repertoire
     requires { IsWellFormed set text.now }
     ensures { result ≡ repertoire_in set text.now }
@@ -43,11 +42,11 @@ pub(crate) fn repertoire_in(set: Charset, text: &[u8]) -> Repertoire
 }
 
 /// The set's usual collation in the catalog.
-#[tactic(auto, using(crate::proofs::Usual::usual_is))]
 pub(crate) fn usual(c: &Catalog, set: Charset) -> CollId
     requires { IsLawful c.now }
     ensures { result.0 ≡ usual c.now set }
 {
+    set_names_law();
     default_of(c, set)
 }
 
