@@ -53,7 +53,7 @@ Shares a b = (b.charset ≡ a.charset) × (b.collation ≡ a.collation)
 
 of_member : (c : Catalog) (list : List Operand) (a : Operand) → All (IsTextOf c) list → IsOperand a
     → Any (Shares a) list → IsTextOf c a
-of_member c list a all own (k, x, within, is, charset, collation) =
+of_member c list a all own (k, x, within, is, (charset, collation)) =
     let b = subst (IsTextOf c) is (all k x within) in
     record {
       within = subst (λ (id : CollId). id.0 < length c.collations) collation b.within;

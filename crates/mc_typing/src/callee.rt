@@ -112,7 +112,11 @@ fn special_function(name: &[u8]) -> Option<Callee>
         Some(Callee::Version)
     } else if is_named(name, b"weight_string") {
         Some(Callee::Weights)
-    } else if is_named(name, b"count") || is_named(name, b"min") || is_named(name, b"max") || is_named(name, b"sum") {
+    } else if is_named(name, b"count")
+        || is_named(name, b"min")
+        || is_named(name, b"max")
+        || is_named(name, b"sum")
+    {
         Some(Callee::Aggregate)
     } else {
         None
@@ -138,7 +142,8 @@ pub(crate) fn takes(callee: Callee, count: usize) -> bool
         Callee::Of(function) => function_takes(function, count),
         Callee::Version => count == 0,
         Callee::Weights => false,
-        Callee::Charset | Callee::Collation | Callee::Coercibility | Callee::Aggregate => count == 1,
+        Callee::Charset | Callee::Collation | Callee::Coercibility | Callee::Aggregate => count
+            == 1,
     }
 }
 

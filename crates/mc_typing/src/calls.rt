@@ -27,7 +27,9 @@ use crate::callee::{Callee, takes};
 use crate::fault::{TypeFault, refused};
 use crate::literals::int_const;
 use crate::messages::{collation_name, no_function, wrong_argument, wrong_count};
-use crate::operands::{BINARY, connection_set, is_number, is_text, of_collation, of_number, operand_of, usual};
+use crate::operands::{
+    BINARY, connection_set, is_number, is_text, of_collation, of_number, operand_of, usual,
+};
 use crate::operators::{number_expr, some_text, together};
 use crate::scope::Scope;
 use crate::typed::{Func, Node, Ty, TypedExpr};
@@ -324,11 +326,7 @@ fn is_cut(cut: Option<Cut>) -> bool
 }
 
 /// WEIGHT_STRING.
-pub(crate) fn weights(
-    alloc: Global,
-    cut: Option<Cut>,
-    x: TypedExpr,
-) -> Result<TypedExpr, TypeFault>
+pub(crate) fn weights(alloc: Global, cut: Option<Cut>, x: TypedExpr) -> Result<TypedExpr, TypeFault>
     ensures { IsWanted result (weights cut x) }
 {
     if is_number(x.ty) || !is_cut(cut) {
@@ -339,11 +337,6 @@ pub(crate) fn weights(
             cut,
             expr: Boxed::new(alloc, x)?,
         },
-        ty: Ty::Str(of_collation(
-            Charset::Binary,
-            BINARY,
-            COERCIBLE,
-            Repertoire::Bytes,
-        )),
+        ty: Ty::Str(of_collation(Charset::Binary, BINARY, COERCIBLE, Repertoire::Bytes)),
     })
 }

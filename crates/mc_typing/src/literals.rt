@@ -26,7 +26,7 @@ use crate::scope::Scope;
 use crate::typed::{Node, Ty, TypedExpr};
 use mc_base::{NoMemory, Text};
 use mc_catalog::Catalog;
-use mc_charset::{Charset, CollId, bytes_law, charset_by_name, chars_law};
+use mc_charset::{Charset, CollId, bytes_law, chars_law, charset_by_name};
 use mc_coerce::COERCIBLE;
 use mc_convert::{convert, reinterpret};
 use mc_values::{Value, within_limit};

@@ -83,7 +83,12 @@ pub(crate) fn of_number(c: &Catalog, s: Scope) -> Operand
     requires { IsScope c.now s }
     ensures { result ≡ of_number c.now s }
 {
-    of_collation(connection_set(c, s), s.connection, NUMERIC, Repertoire::Ascii)
+    of_collation(
+        connection_set(c, s),
+        s.connection,
+        NUMERIC,
+        Repertoire::Ascii,
+    )
 }
 
 /// The operand that an expression of the type is, as CHARSET and its kin show it.
@@ -130,5 +135,9 @@ pub(crate) fn is_text(ty: Ty) -> bool
 pub(crate) fn lesser(class: Repertoire, other: Repertoire) -> Repertoire
     ensures { result ≡ lesser class other }
 {
-    if class.is_at_most(other) { class } else { other }
+    if class.is_at_most(other) {
+        class
+    } else {
+        other
+    }
 }
