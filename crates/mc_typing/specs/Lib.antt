@@ -9,3 +9,4 @@ pub mod Columns
 pub mod Operators
 pub mod Calls
 pub mod Exprs
+pub mod Statements
