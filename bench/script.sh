@@ -1,7 +1,9 @@
 #!/bin/bash
 # How long the proved program takes over a long script: 200,000 comparisons (about 6 MB) and
 # 400,000, beside `cat` and `sort` over the same bytes, the quickest of seven runs each. Aim: twice
-# the statements take at most 2.2 times as long.
+# the statements take at most 2.2 times as long. Then half as many statements of 40 tokens, which
+# are read and not answered, and twice as many of them. Aims: at most 3 times as long as `sort`
+# over the same bytes, and 2.2 times as long for twice the statements.
 #
 #     bench/script.sh [STATEMENTS]
 set -e
@@ -18,11 +20,21 @@ make_script() { # how many statements, a file
     }' >"$2"
 }
 
+make_long_statements() { # how many statements of 40 tokens, a file
+    awk -v n="$1" 'BEGIN {
+        for (i = 0; i < n; i++) {
+            printf "SELECT a + 1 * (b - 2), f(c, \047x%06d\047), NOT d BETWEEN 1 AND 2,", i
+            printf " e LIKE \047y%06d\047 ESCAPE \047!\047 FROM t WHERE g = \047z\047", i
+            print " ORDER BY h DESC;"
+        }
+    }' >"$2"
+}
+
 seconds() { # runs a command seven times, and prints how many seconds the quickest run took
     local started took best=
     for _ in 1 2 3 4 5 6 7; do
         started=$(date +%s%N)
-        "$@" >"$folder/out"
+        "$@" >"$folder/out" || [ $? = 1 ]
         took=$(($(date +%s%N) - started))
         if [ -z "$best" ] || [ "$took" -lt "$best" ]; then best=$took; fi
     done
@@ -44,5 +56,19 @@ one=$(seconds "$top/mycoll" "$folder/one.sql")
 two=$(seconds "$top/mycoll" "$folder/two.sql")
 plain=$(seconds cat "$folder/one.sql")
 sorted=$(seconds sort "$folder/one.sql")
-echo "$count comparisons, $bytes bytes: mycoll $one s, cat $plain s, sort $sorted s; mycoll / sort $(ratio "$one" "$sorted")"
+echo "$count comparisons, $bytes bytes: mycoll $one s, cat $plain s, sort $sorted s;" \
+    "mycoll / sort $(ratio "$one" "$sorted")"
 echo "$((2 * count)) comparisons: mycoll $two s, $(ratio "$two" "$one") times as long"
+
+make_long_statements $((count / 2)) "$folder/one.sql"
+make_long_statements "$count" "$folder/two.sql"
+"$top/mycoll" "$folder/one.sql" >"$folder/out" || [ $? = 1 ]
+[ "$(sort -u "$folder/out")" = "ERROR 9099: not built yet" ] ||
+    { head -n 3 "$folder/out"; exit 1; }
+bytes=$(wc -c <"$folder/one.sql")
+one=$(seconds "$top/mycoll" "$folder/one.sql")
+two=$(seconds "$top/mycoll" "$folder/two.sql")
+sorted=$(seconds sort "$folder/one.sql")
+echo "$((count / 2)) statements of 40 tokens, $bytes bytes: mycoll $one s, sort $sorted s;" \
+    "mycoll / sort $(ratio "$one" "$sorted")"
+echo "$count statements: mycoll $two s, $(ratio "$two" "$one") times as long"

@@ -1,1 +1,1 @@
-SELECT 'a' = 'b';SELECT 1
+SELECT 'a' = 'b';SELECT 1 1

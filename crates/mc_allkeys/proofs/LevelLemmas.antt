@@ -1,5 +1,5 @@
 -- Weight lists of joined pieces, and their weights.
-use Rattle.std.proofs.Common.{◌≡◌, ◌==◌, ◌≤◌, ℕ, zero, suc, ◌-◌, Bool, true, false, not, List, [], ◌∷◌, ◌++◌, take, drop, map, filter, if◌then◌else◌, ◌⊎◌, sym, ap, ◌∙◌, arith}
+use Rattle.std.proofs.Common.{◌≡◌, ◌==◌, ◌≤◌, ℕ, zero, suc, ◌-◌, Bool, true, false, not, List, [], ◌∷◌, ◌++◌, take, drop, map, filter, if◌then◌else◌, ◌⊎◌, append-nil, sym, ap, ◌∙◌, arith}
 use Rattle.std.specs.List.{All, flat_map}
 use Rattle.std.proofs.lemmas.Grind.{flat_map-append}
 use Rattle.std.proofs.lemmas.List.{map-append}
@@ -9,6 +9,7 @@ use Rattle.mc_allkeys.specs.Levels.{weight_on, level_weights, level_list, IsFron
 use Rattle.mc_allkeys.specs.Pieces.{piece_len, pieces_behind, pieces}
 use Rattle.mc_allkeys.specs.Sound.{HasWeights}
 use Rattle.mc_allkeys.specs.declared.element.Element.{Element}
+use Rattle.mc_allkeys.proofs.PieceLemmas.{pieces-step}
 use Rattle.mc_allkeys.proofs.FrontLemmas.{cut-front, cut-fresh, cut-alone, pieces-one}
 
 -- the weights of pieces on a level
@@ -24,6 +25,20 @@ piece_weights-append elements level ps qs =
     (map-append (weight_on level) (flat_map elements ps) (flat_map elements qs))
     ∙ filter-append (λ weight. not (weight == 0)) (map (weight_on level) (flat_map elements ps))
     (map (weight_on level) (flat_map elements qs))
+
+-- The list of a text: the weights of the piece that begins it, and the list of what follows it.
+pub list-step : (contractions : List (List ℕ)) (elements : List ℕ → List Element) (level code : ℕ)
+    (rest : List ℕ) → level_list contractions elements level (code ∷ rest)
+    ≡ level_weights level (elements (take (piece_len contractions (code ∷ rest)) (code ∷ rest)))
+    ++ level_list contractions elements level (drop (piece_len contractions (code ∷ rest)) (code ∷ rest))
+list-step contractions elements level code rest =
+    let len = piece_len contractions (code ∷ rest) in
+    let piece = take len (code ∷ rest) in
+    let behind = drop len (code ∷ rest) in
+    ap (piece_weights elements level) (pieces-step contractions code rest)
+    ∙ piece_weights-append elements level (piece ∷ []) (pieces contractions behind)
+    ∙ ap (λ es. level_weights level es ++ level_list contractions elements level behind)
+    (append-nil (elements piece))
 
 pub list-front : (contractions : List (List ℕ)) (elements : List ℕ → List Element) (level k : ℕ)
     (codes : List ℕ) → IsFrontList contractions elements level k codes

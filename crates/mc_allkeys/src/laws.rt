@@ -3,7 +3,7 @@ ghost use Rattle.std.specs.List.{All};
 ghost use Rattle.mc_base.specs.FirstFault.{HasNoFault, IsFirstFault};
 ghost use Rattle.mc_allkeys.specs.Faults.{fault_of};
 ghost use Rattle.mc_allkeys.specs.Fronts.{IsPieceLen, IsHead, IsFresh, IsAcross, IsFrontCut};
-ghost use Rattle.mc_allkeys.specs.Levels.{IsFrontList, level_list};
+ghost use Rattle.mc_allkeys.specs.Levels.{IsFrontList, level_list, level_weights};
 ghost use Rattle.mc_allkeys.specs.Longest.{AreContractionsAt, HasNoLonger, IsLongest};
 ghost use Rattle.mc_allkeys.specs.Pieces.{IsRightCut, piece_len, pieces};
 ghost use Rattle.mc_allkeys.specs.Sound.{HasWeights, IsSound};
@@ -13,13 +13,18 @@ ghost use Rattle.mc_allkeys.specs.declared.fault.KeysFault.{KeysFault};
 
 use crate::keys::Keys;
 
-/// The laws of the cut into pieces: a text has one right cut, and its pieces are it.
+/// The laws of the cut into pieces: a text has one right cut, and its pieces are it. They are the
+/// piece that begins the text, and those of what follows it.
 pub fn cut_law()
     ensures one_cut { (contractions : List (List ℕ)) (codes : List ℕ) (one : List (List ℕ))
         (other : List (List ℕ)) → IsRightCut contractions codes one →
         IsRightCut contractions codes other → one ≡ other }
     ensures right { (contractions : List (List ℕ)) (codes : List ℕ) →
         IsRightCut contractions codes (pieces contractions codes) }
+    ensures none { (contractions : List (List ℕ)) → pieces contractions [] ≡ [] }
+    ensures step { (contractions : List (List ℕ)) (code : ℕ) (rest : List ℕ) →
+        let len = piece_len contractions (code ∷ rest) in pieces contractions (code ∷ rest)
+        ≡ take len (code ∷ rest) ∷ pieces contractions (drop len (code ∷ rest)) }
 {}
 
 /// The laws of the piece that begins a text: its length is the greatest one; a piece of at most k
@@ -62,12 +67,19 @@ pub fn longest_law()
         piece_len contractions text ≡ 1 }
 {}
 
-/// The laws of weight lists: no codes have no weights; where no contraction reaches from the first
+/// The laws of weight lists: no codes have no weights; a text has those of the piece that begins it,
+/// and then those of what follows it; where no contraction reaches from the first
 /// codes into what follows, lists are joined; weights are not zero, and have two bytes where those
 /// of the elements do.
 pub fn level_law()
     ensures empty { (contractions : List (List ℕ)) (elements : List ℕ → List Element) (level : ℕ) →
         level_list contractions elements level [] ≡ [] }
+    ensures step { (contractions : List (List ℕ)) (elements : List ℕ → List Element)
+        (level : ℕ) (code : ℕ) (rest : List ℕ) →
+        let len = piece_len contractions (code ∷ rest) in
+        level_list contractions elements level (code ∷ rest)
+        ≡ level_weights level (elements (take len (code ∷ rest)))
+        ++ level_list contractions elements level (drop len (code ∷ rest)) }
     ensures front { (contractions : List (List ℕ)) (elements : List ℕ → List Element)
         (level : ℕ) (k : ℕ) (codes : List ℕ) →
         IsFrontList contractions elements level k codes }

@@ -5,3 +5,6 @@ pub mod ClauseKinds
 pub mod OperatorKinds
 pub mod CallKinds
 pub mod EachMeans
+pub mod Utf8Nodes
+pub mod Utf8Meanings
+pub mod Utf8Trees

@@ -3,6 +3,8 @@ pub mod Values
 pub mod Grouping
 pub mod Meaning
 pub mod Trees
+pub mod Parsed
+pub mod Texts
 pub mod Alike
 pub mod Written
 pub mod Operators

@@ -14,6 +14,7 @@ mod examples;
 mod expr;
 mod operators;
 mod statement;
+mod texts;
 mod trees;
 
 pub use alike::likeness_ignores_spans;
@@ -21,4 +22,5 @@ pub use examples::{calls, clauses, literals_and_names, operators_group};
 pub use expr::{Expr, Form};
 pub use operators::{ArithOp, CmpOp, Cut, TrimSide};
 pub use statement::{Item, OrderItem, Statement};
+pub use texts::texts_law;
 pub use trees::{readings_have_trees, trees_are_unique};

@@ -1,3 +1,4 @@
 pub mod ToldLemmas
+pub mod KeysLemmas
 pub mod LoadLemmas
 pub mod BookLemmas

@@ -14,7 +14,7 @@ use Rattle.mc_table8.specs.declared.fault.TableFault.TheVariants.{BadLine, Repea
 -- A file that was not read gives nothing that comes of it.
 pub ruleset unread_steps = (HasOutcome-and_then)
 
-short_of_memory : {T U : Type 0} (seen : T → U) (outcome : Result U FileRefusal) (answer : FileFault) → answer ≡ OutOfMemory → HasOutcome seen (Err answer) outcome
+pub short_of_memory : {T U : Type 0} (seen : T → U) (outcome : Result U FileRefusal) (answer : FileFault) → answer ≡ OutOfMemory → HasOutcome seen (Err answer) outcome
 short_of_memory seen outcome (Refused refusal) e = absurd cc
 short_of_memory seen outcome Fault e = tt
 short_of_memory seen outcome OutOfMemory e = tt

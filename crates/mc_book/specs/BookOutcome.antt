@@ -1,14 +1,16 @@
 -- What the files of a catalog's collations give: the meanings of all, or the first refusal.
-use Rattle.std.specs.Prelude.{ℕ, Bool, true, false, List, [], ◌∷◌, ◌++◌, IsTrue, Option, Result, Ok}
-use Rattle.std.specs.Prelude.{Err, map, drop, codes}
+use Rattle.std.specs.Prelude.{ℕ, Bool, true, false, IsTrue, ◌&&◌, List, [], ◌∷◌}
+use Rattle.std.specs.Prelude.{◌++◌, Option, Some, None, is_none, Result, Ok, Err}
+use Rattle.std.specs.Prelude.{map, drop, codes}
 use Rattle.std.specs.Result.{result_map_both}
 use Rattle.mc_base.specs.FileOutcome.{file_outcome, file_refusal}
 use Rattle.mc_base.specs.Results.{result_and_then}
 use Rattle.mc_base.specs.declared.refusal.FileRefusal.{FileRefusal}
+use Rattle.mc_book.specs.UcaOutcome.{uca_kind, uca_outcome}
 use Rattle.mc_catalog.specs.Limits.{built_in_count}
 use Rattle.mc_catalog.specs.declared.catalog.CollDecl.{CollDecl}
 use Rattle.mc_catalog.specs.declared.catalog.Kind.{Kind}
-use Rattle.mc_catalog.specs.declared.catalog.Kind.TheVariants.{Table8, General}
+use Rattle.mc_catalog.specs.declared.catalog.Kind.TheVariants.{Bin, Table8, General}
 use Rattle.mc_order.specs.Bin.{bin_meaning, built_in}
 use Rattle.mc_order.specs.Meaning.{Meaning}
 use Rattle.mc_table8.specs.GeneralMeaning.{weights_meaning}
@@ -18,15 +20,18 @@ use Rattle.mc_table8.specs.declared.fault.TableFault.TheVariants.{BadLine, Repea
 use Rattle.mc_table8.specs.declared.fault.TableFault.TheVariants.{NoMemory}
 use Rattle.mc_table8.specs.Outcome.{table8_outcome, general_outcome}
 
--- Whether a kind is built: its weights are read from a table of bytes or of code points.
+-- Whether the weights of a kind are read from a file.
 abbrev pub has_table : Kind → Bool
-has_table Table8 = true
-has_table General = true
-has_table _ = false
+has_table Bin = false
+has_table _ = true
 
--- A declared collation is of a built kind.
+-- Whether a declared collation is built: its weights are read from a file and not tailored.
+unfoldable pub is_built_collation : CollDecl → Bool
+is_built_collation declared = has_table declared.kind && is_none declared.rules
+
+-- A declared collation is built.
 abbrev pub IsBuilt : CollDecl → Type 0
-IsBuilt declared = IsTrue (has_table declared.kind)
+IsBuilt declared = IsTrue (is_built_collation declared)
 
 -- The refusal of a table's file by its fault; want of memory is none that a text has.
 abbrev pub table_refusal : List ℕ → TableFault → FileRefusal
@@ -47,13 +52,21 @@ codes_outcome declared text =
     result_map_both (weights_meaning declared.charset) (table_refusal declared.file)
     (general_outcome text)
 
--- What a declared collation means by the files of its kind, or the first refusal among them; a kind
--- that is not built is refused.
-unfoldable pub declared_outcome : (List ℕ → Option (List ℕ)) → CollDecl → Result Meaning FileRefusal
-declared_outcome files declared = elim declared.kind [
+-- What a declared collation of another kind means by its file; one without a file is refused.
+abbrev pub weights_outcome : (List ℕ → Option (List ℕ)) → CollDecl
+    → Result Meaning FileRefusal
+weights_outcome files declared = elim declared.kind [
   | Table8 ↦ result_and_then (bytes_outcome declared) (file_outcome files declared.file)
   | General ↦ result_and_then (codes_outcome declared) (file_outcome files declared.file)
   | _ ↦ Err (file_refusal declared.file (codes "NotBuilt") 0)
+]
+
+-- What a declared collation means by the files of its kind, or the first refusal among them.
+unfoldable pub declared_outcome : (List ℕ → Option (List ℕ)) → CollDecl
+    → Result Meaning FileRefusal
+declared_outcome files declared = elim (uca_kind declared.kind) [
+  | Some kind ↦ uca_outcome files declared kind
+  | None ↦ weights_outcome files declared
 ]
 
 -- All values, or the first error.
@@ -73,4 +86,5 @@ behind_outcome values results =
 unfoldable pub book_outcome : (List ℕ → Option (List ℕ)) → List CollDecl
     → Result (List Meaning) FileRefusal
 book_outcome files collations =
-    behind_outcome (map bin_meaning built_in) (map (declared_outcome files) (drop built_in_count collations))
+    behind_outcome (map bin_meaning built_in)
+    (map (declared_outcome files) (drop built_in_count collations))

@@ -1,3 +1,4 @@
 pub mod Any
+pub mod UcaOutcome
 pub mod BookOutcome
 pub mod Meanings

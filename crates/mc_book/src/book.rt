@@ -16,10 +16,14 @@ pub struct AnyBook {
 }
 
 impl Model for AnyBook {
+    ghost use Rattle.std.specs.Coded.{coded_list};
     ghost use Rattle.std.specs.Prelude.{List};
+    ghost use Rattle.mc_book.specs.contracts.any_collation.AnyCollation as any;
     ghost use Rattle.mc_book.specs.declared.any_collation.AnyCollation.{AnyCollation as Collated};
 
     ghost Value = { List Collated };
+
+    ghost coded = { coded_list any.the_row.coded };
 
     ghost view = { λ book. book.collations };
 }

@@ -23,7 +23,7 @@ enum Want {
     Fault,
 }
 
-const ROWS: [Row; 12] = [
+const ROWS: [Row; 16] = [
     Row {
         catalog: b"collation latin1_german2_ci latin1 table8 g2.txt\n",
         fail: &[],
@@ -73,6 +73,30 @@ const ROWS: [Row; 12] = [
         why: "the first refusal in the order of the catalog",
     },
     Row {
+        catalog: b"collation utf8mb4_unicode_ci utf8mb4 uca400 el.txt\n",
+        fail: &[],
+        want: Want::Book(10, b"\xC3\x9F", b"ss", Ordering::Equal),
+        why: "a letter of two elements",
+    },
+    Row {
+        catalog: b"collation utf8mb4_0900_as_ci utf8mb4 uca900_as_ci el.txt\n",
+        fail: &[],
+        want: Want::Book(10, b"\xC3\x9F", b"SS", Ordering::Greater),
+        why: "the second level",
+    },
+    Row {
+        catalog: b"collation utf8mb4_unicode_ci utf8mb4 uca400 bare.txt\n",
+        fail: &[],
+        want: Want::Refused(b"bare.txt", b"SpaceWeight", 0),
+        why: "the space is not listed, and texts are padded",
+    },
+    Row {
+        catalog: b"collation utf8mb4_0900_ai_ci utf8mb4 uca900_ai_ci gen.txt\n",
+        fail: &[],
+        want: Want::Refused(b"gen.txt", b"BadLine", 1),
+        why: "a table of code points where one of elements is declared",
+    },
+    Row {
         catalog: b"collation latin1_german2_ci latin1 table8 g2.txt\n",
         fail: &[0],
         want: Want::Fault,
@@ -100,6 +124,8 @@ const ROWS: [Row; 12] = [
 
 fn files(alloc: Global, fail: &[u64]) -> Result<MemFiles, NoMemory> {
     let german2 = b"default =\n61..7A @ 41\nC4 41 45\nE4 41 45\nDF 53 53\n";
+    let elements =
+        b"0020 ; [*0209.0020.0002]\n0053 ; [.0FEA.0020.0008]\n0073 ; [.0FEA.0020.0002]\n00DF ; [.0FEA.0021.0004][.0FEA.0020.0004]\n";
     let mut files = List::new(alloc);
     files.push((
         Text::from_slice(alloc, b"g2.txt")?,
@@ -116,6 +142,14 @@ fn files(alloc: Global, fail: &[u64]) -> Result<MemFiles, NoMemory> {
     files.push((
         Text::from_slice(alloc, b"twice.txt")?,
         Text::from_slice(alloc, b"0061..007A @ 0041\n00DF 0053\n00DF 0053\n")?,
+    ))?;
+    files.push((
+        Text::from_slice(alloc, b"el.txt")?,
+        Text::from_slice(alloc, elements)?,
+    ))?;
+    files.push((
+        Text::from_slice(alloc, b"bare.txt")?,
+        Text::from_slice(alloc, &elements[25..])?,
     ))?;
     Ok(MemFiles::new(files, List::from_slice(alloc, fail)?))
 }

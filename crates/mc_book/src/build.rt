@@ -14,6 +14,7 @@ ghost use Rattle.std.specs.Prelude.{
 ghost use Rattle.mc_base.specs.FileOutcome.{FileCause, HasOutcome};
 ghost use Rattle.mc_book.specs.Any.{any_meaning};
 ghost use Rattle.mc_book.specs.BookOutcome.{book_outcome, declared_outcome, behind_outcome};
+ghost use Rattle.mc_book.specs.BookOutcome.{weights_outcome};
 ghost use Rattle.mc_book.specs.Meanings.{any_set, meaning_at, meanings};
 ghost use Rattle.mc_catalog.specs.Fits.{FitsCatalog};
 ghost use Rattle.mc_catalog.specs.Lawful.{IsLawful, IsLawfulCollation};
@@ -21,8 +22,9 @@ ghost use Rattle.mc_catalog.specs.Limits.{built_in_count};
 ghost use Rattle.mc_book.specs.declared.any_collation.AnyCollation.TheVariants.{Bin};
 ghost use Rattle.mc_order.specs.Bin.{built_in};
 
+use crate::elements::load_uca;
 use crate::fault::BookFault;
-use crate::kinds::declared_collations;
+use crate::kinds::{declared_collations, uca_kind};
 use crate::table::{load_bytes, load_codes};
 use crate::{AnyBook, AnyCollation};
 use mc_base::{Files, List, NoMemory, refuse_file};
@@ -42,6 +44,27 @@ fn built_in_collations(alloc: Global) -> Result<List<AnyCollation>, NoMemory>
     Ok(collations)
 }
 
+/// The collation of a declaration of a kind that is no Unicode one, by its file.
+fn load_weights<F: Files>(
+    alloc: Global,
+    declared: &CollDecl,
+    files: &mut F,
+) -> Result<AnyCollation, BookFault>
+    requires { IsLawfulCollation declared.now }
+    ensures kept { F.contents files.new ≡ F.contents files.old }
+    ensures later { F.faults files.old ≤ F.faults files.new }
+    ensures told { IfSome (F.contents files.old) (λ told.
+        HasOutcome any_meaning result (weights_outcome told declared.now)) }
+    ensures cause { FileCause result (F.faults files.old) (F.faults files.new) }
+    ensures set { IfOk result (λ collation. any_set collation ≡ declared.now.charset) }
+{
+    match declared.kind {
+        Kind::Table8 => load_bytes(alloc, declared, files),
+        Kind::General => load_codes(alloc, declared, files),
+        _ => Err(refuse_file(alloc, &declared.file, b"NotBuilt", 0)),
+    }
+}
+
 /// The collation of a declaration, by the files of its kind.
 #[tactic(auto, unfolding(crate::specs::BookOutcome::declared_outcome))]
 fn load<F: Files>(
@@ -57,10 +80,9 @@ fn load<F: Files>(
     ensures cause { FileCause result (F.faults files.old) (F.faults files.new) }
     ensures set { IfOk result (λ collation. any_set collation ≡ declared.now.charset) }
 {
-    match declared.kind {
-        Kind::Table8 => load_bytes(alloc, declared, files),
-        Kind::General => load_codes(alloc, declared, files),
-        _ => Err(refuse_file(alloc, &declared.file, b"NotBuilt", 0)),
+    match uca_kind(declared.kind) {
+        Some(kind) => load_uca(alloc, declared, kind, files),
+        None => load_weights(alloc, declared, files),
     }
 }
 
@@ -95,8 +117,9 @@ fn load_all<F: Files>(
 /// the next one is opened, and the first refusal ends it (MySQL 8.0 manual, 10.14).
 ///
 /// A file is refused by the name of its fault and a number: `Absent` 0; `TooLong` 16777216, for
-/// more bytes than that; `BadLine` and `Repeated` the line, from 1; `Missing` the byte; `NotBuilt`
-/// 0, for a collation of a kind that is not built.
+/// more bytes than that; the line, from 1, for `BadLine`, `Repeated` and the other faults of the
+/// lines of an element table; `Missing` the byte; `SpaceWeight` 0, where an element table gives the
+/// space no or several weights and texts are padded; `NotBuilt` 0, for a collation with rules.
 #[tactic(auto, unfolding(crate::specs::BookOutcome::book_outcome))]
 pub fn build_book<F: Files>(alloc: Global, c: &Catalog, files: &mut F) -> Result<AnyBook, BookFault>
     requires { IsLawful c.now }

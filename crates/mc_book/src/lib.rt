@@ -1,14 +1,15 @@
 //! The collations of a catalog, of every kind, and the book of them that its files give.
 //!
-//! `AnyCollation` is a collation of one of the kinds: a built-in one of `mc_order`, or one by a
-//! table of `mc_table8`. `specs/Any.antt` says what each means; it keeps the laws of a collation
-//! (`mc_order`) because each kind does: `any.compare(a, b)` is the order of two texts by the kind
-//! that `any` has.
+//! `AnyCollation` is a collation of one of the kinds: a built-in one of `mc_order`, one by a table
+//! of `mc_table8`, or one by a table of elements, of `mc_uca`. `specs/Any.antt` says what each
+//! means; it keeps the laws of a collation (`mc_order`) because each kind does:
+//! `any.compare(a, b)` is the order of two texts by the kind that `any` has.
 //!
 //! `build_book(alloc, &catalog, &mut files)` reads the table of each declared collation, in the
-//! order of the catalog; `specs/BookOutcome.antt` says what they give, or which one is refused.
+//! order of the catalog; `specs/BookOutcome.antt` says what they give, or which one is refused,
+//! and `specs/UcaOutcome.antt` what a table of elements gives.
 //!
-//! Read `any_collation` and `book`; then `fault`, `kinds`, `table` and `build`.
+//! Read `any_collation` and `book`; then `fault`, `kinds`, `table`, `elements` and `build`.
 #![tactic(auto)]
 
 mod any_collation;
@@ -16,6 +17,7 @@ mod book;
 #[cfg(test)]
 mod book_tests;
 mod build;
+mod elements;
 mod fault;
 mod kinds;
 mod table;

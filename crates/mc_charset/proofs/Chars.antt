@@ -12,7 +12,8 @@ use Rattle.mc_charset.specs.Rows.{first_in}
 use Rattle.mc_charset.specs.Tables.{rows}
 use Rattle.mc_charset.specs.Chars.{spell, spell_all, chars_behind, chars, Spells, IsWellFormed}
 use Rattle.mc_charset.specs.NextChar.{IsFirst, BeginsBadly, IsNextChar, HeadsChars, IsFound}
-use Rattle.mc_charset.proofs.Rows.{is_sound, first_in-spelling, first_in_begins, first_in_none, codes_end, spelling_below}
+use Rattle.mc_charset.proofs.Rows.{is_sound, first_in-spelling, first_in_begins, first_in_none}
+use Rattle.mc_charset.specs.CodePoints.{spelled_code_point}
 
 -- The tables
 
@@ -25,16 +26,6 @@ rows_sound Ucs2 = refl
 rows_sound Utf16 = refl
 rows_sound Utf32 = refl
 rows_sound Binary = refl
-
-pub rows_below : (set : Charset) → codes_end 0x110000 (rows set) ≡ true
-rows_below Latin1 = refl
-rows_below Ascii = refl
-rows_below Utf8mb3 = refl
-rows_below Utf8mb4 = refl
-rows_below Ucs2 = refl
-rows_below Utf16 = refl
-rows_below Utf32 = refl
-rows_below Binary = refl
 
 -- The first character
 
@@ -50,7 +41,7 @@ found_is_first set text code len h =
       spelled = b.spelled;
       positive = b.positive;
       within = b.within;
-      is_code_point = spelling_below (rows set) 0x110000 code (take len text) (rows_below set) b.spelled;
+      is_code_point = spelled_code_point set code (take len text) b.spelled;
     }
 
 pub none_begins_badly : (set : Charset) (text : List ℕ) → first_in (rows set) text ≡ None → BeginsBadly set text
@@ -136,7 +127,7 @@ found_well_formed set text code len h w =
     let i = found_is_first set text code len h in
     (code ∷ w.0, Spells_cons set code w.0 (take len text) (drop len text) i.spelled w.1 ∙ ap (λ x. Some x) (take-append-drop len text))
 
-behind_well_formed : (set : Charset) (text : List ℕ) (code len : ℕ) (codes : List ℕ) → first_in (rows set) text ≡ Some (code, len) → Spells set codes text → IsWellFormed set (drop len text)
+pub behind_well_formed : (set : Charset) (text : List ℕ) (code len : ℕ) (codes : List ℕ) → first_in (rows set) text ≡ Some (code, len) → Spells set codes text → IsWellFormed set (drop len text)
 behind_well_formed set text code len [] h k =
     let i = found_is_first set text code len h in
     let l = ap length (Spells_nil set text k) in

@@ -7,13 +7,8 @@ use Rattle.std.proofs.lemmas.Slice.Eq.{bytes_eq-Decides}
 use Rattle.mc_charset.specs.declared.charset.Charset.{Charset}
 use Rattle.mc_charset.specs.Rows.{first_in}
 use Rattle.mc_charset.specs.Tables.{rows}
-use Rattle.mc_charset.specs.Chars.{spell, spell_all, chars_behind, chars, code_points, is_spelled, IsWellFormed}
-use Rattle.mc_charset.proofs.Rows.{spelling_below}
-use Rattle.mc_charset.proofs.Chars.{rows_below, found_is_first, well_formed_spelled}
-
-pub spelled_code_point : (set : Charset) (code : ℕ) (front : List ℕ) → spell set code ≡ Some front → code < code_points
-unfolding spell
-spelled_code_point set code front h = spelling_below (rows set) 0x110000 code front (rows_below set) h
+use Rattle.mc_charset.specs.Chars.{spell_all, chars_behind, chars, code_points, is_spelled, IsWellFormed}
+use Rattle.mc_charset.proofs.Chars.{found_is_first, well_formed_spelled}
 
 behind : (set : Charset) (byte : ℕ) (bytes : List ℕ) (found : Option (ℕ × ℕ)) → ((skipped : ℕ) → All (λ code. code < code_points) (chars_behind set skipped bytes))
     → first_in (rows set) (byte ∷ bytes) ≡ found

@@ -5,4 +5,6 @@ pub mod Start
 pub mod WellFormed
 pub mod SetNames
 pub mod CodePoints
-pub mod Firsts
+pub mod FirstBytes
+pub mod Places
+pub mod Units

@@ -244,20 +244,3 @@ first_in_begins (row ∷ rows) bytes code len h k =
 -- Where nothing is found, no spelling begins the bytes.
 pub first_in_none : (rows : List Row) (bytes : List ℕ) → is_sound rows ≡ true → first_in rows bytes ≡ None → (code : ℕ) (front rest : List ℕ) → spelling_in rows code ≡ Some front → bytes ≡ front ++ rest → ⊥
 first_in_none rows bytes h k code front rest e f = let i = first_in-spelling rows code front rest h e in let j = ap (first_in rows) f in cc
-
--- Each code point of the rows is below this number.
-abbrev pub codes_end : ℕ → List Row → Bool
-codes_end end [] = true
-codes_end end (row ∷ rows) = leb (row.first + count row.bytes) end && codes_end end rows
-
-below_end : (a m end code : ℕ) → leb (a + m) end ≡ true → (leb a code && ltb code (a + m)) ≡ true → code < end
-below_end a m end code h k = grind (arith, nat_tests)
-
-pub spelling_below : (rows : List Row) (end code : ℕ) (front : List ℕ) → codes_end end rows ≡ true → spelling_in rows code ≡ Some front → code < end
-spelling_below [] end code front h k = absurd (cc)
-spelling_below (row ∷ rows) end code front h k =
-    let p = and_parts (leb (row.first + count row.bytes) end) (codes_end end rows) h in
-    elim (guard_cases (has_code row code) (sequence row.bytes (code - row.first)) front (spelling_in rows code) k) [
-      | inl e ↦ below_end row.first (count row.bytes) end code p.0 e.0
-      | inr e ↦ spelling_below rows end code front p.1 e.1
-    ]

@@ -1,5 +1,6 @@
 -- Characters and their spellings in a set; the characters of a text.
-use Rattle.std.specs.Prelude.{◌≡◌, ℕ, ◌-◌, Bool, false, List, [], ◌∷◌, ◌++◌, Option, Some, None}
+use Rattle.std.specs.Prelude.{◌≡◌, ℕ, ◌-◌, Bool, false, List, [], ◌∷◌, ◌++◌}
+use Rattle.std.specs.Prelude.{Option, Some, None}
 use Rattle.std.specs.Prelude.{zero, suc, option_and_then}
 use Rattle.std.specs.Option.{option_map_or}
 use Rattle.std.specs.Str.{bytes_eq}
@@ -15,7 +16,8 @@ spell set code = spelling_in (rows set) code
 unfoldable pub spell_all : Charset → List ℕ → Option (List ℕ)
 spell_all set [] = Some []
 spell_all set (code ∷ codes) =
-    option_and_then (λ front. option_and_then (λ rest. Some (front ++ rest)) (spell_all set codes))
+    option_and_then (λ front. option_and_then (λ rest. Some (front ++ rest))
+    (spell_all set codes))
     (spell set code)
 
 -- The text is spelled by these characters and no others.

@@ -5,3 +5,4 @@ pub mod NextChar
 pub mod PutChar
 pub mod Names
 pub mod CharStart
+pub mod CodePoints

@@ -1,5 +1,6 @@
 -- The names of the sets and of their binary collations: MySQL 8.0 manual, 10.2 and 10.8.5.
-use Rattle.std.specs.Prelude.{◌≡◌, ◌⊎◌, ℕ, Bool, true, false, List, [], ◌∷◌, ◌++◌, Option, codes}
+use Rattle.std.specs.Prelude.{◌≡◌, ◌⊎◌, ℕ, Bool, true, false, List, [], ◌∷◌}
+use Rattle.std.specs.Prelude.{◌++◌, Option, codes}
 use Rattle.std.specs.Prelude.{map, option_map}
 use Rattle.std.specs.Char.{to_ascii_lowercase}
 use Rattle.std.specs.List.{find}
@@ -61,7 +62,8 @@ is_unicode_set Utf32 = true
 abbrev pub built_in_names : List (List ℕ)
 built_in_names = codes "binary" ∷ codes "latin1_bin" ∷ codes "ascii_bin" ∷ codes "utf8mb3_bin"
     ∷ codes "utf8mb4_bin"
-    ∷ codes "ucs2_bin" ∷ codes "utf16_bin" ∷ codes "utf32_bin" ∷ codes "utf8mb4_0900_bin" ∷ []
+    ∷ codes "ucs2_bin" ∷ codes "utf16_bin"
+    ∷ codes "utf32_bin" ∷ codes "utf8mb4_0900_bin" ∷ []
 
 -- how many collations are built in
 abbrev pub built_in_count : ℕ

@@ -1,5 +1,6 @@
 -- The first character of a text.
-use Rattle.std.specs.Prelude.{◌≡◌, ◌≢◌, ◌↔◌, ℕ, ◌<◌, ◌≤◌, List, [], ◌∷◌, ◌++◌, Some, None, length}
+use Rattle.std.specs.Prelude.{◌≡◌, ◌≢◌, ◌↔◌, ℕ, ◌<◌, ◌≤◌, List, []}
+use Rattle.std.specs.Prelude.{◌∷◌, ◌++◌, Some, None, length}
 use Rattle.std.specs.Prelude.{take, drop}
 use Rattle.mc_charset.specs.declared.charset.Charset.{Charset}
 use Rattle.mc_charset.specs.declared.char_at.CharAt.{CharAt}
@@ -17,7 +18,8 @@ pub record IsFirst (set : Charset) (text : List ℕ) (code : ℕ) (len : ℕ) : 
 -- No spelling of the set begins the text.
 abbrev pub BeginsBadly : Charset → List ℕ → Type 0
 BeginsBadly set text =
-    (code : ℕ) (front rest : List ℕ) → spell set code ≡ Some front → text ≢ front ++ rest
+    (code : ℕ) (front rest : List ℕ) → spell set code ≡ Some front
+    → text ≢ front ++ rest
 
 -- The answer is the character whose spelling begins the text, or says why there is none.
 abbrev pub IsNextChar : Charset → List ℕ → CharAt → Type 0

@@ -1,11 +1,17 @@
-ghost use Rattle.mc_charset.specs.CharStart.{IsCharStart, HasWidth, is_not_behind};
+ghost use Rattle.mc_charset.specs.CharStart.{
+  IsCharStart,
+  HasWidth,
+  is_not_high,
+  unit_firsts,
+};
 ghost use Rattle.mc_charset.specs.Chars.{chars, IsWellFormed};
 ghost use Rattle.std.specs.Prelude.{◌≡◌, ◌<◌, ◌≤◌, ◌^◌, IfSome, filter, length};
 
 use crate::char_at::CharAt;
 use crate::charset::Charset;
 use crate::encoding::{Encoding, next_in};
-use crate::encodings::{Ascii, Binary, Latin1, Ucs2, Utf8mb3, Utf8mb4, Utf16, Utf32};
+use crate::encodings::{Ascii, Binary, Latin1, Ucs2, Utf16, Utf32};
+use crate::firsts::{count_firsts, start_of_first};
 
 /// How many characters a well-formed text of fewer than 2^32 bytes has.
 pub fn char_count(set: Charset, text: &[u8]) -> u32
@@ -55,30 +61,32 @@ fn count_varied(set: Charset, text: &[u8]) -> u32
         Charset::Latin1 => count_each::<Latin1>(text),
         Charset::Ascii => count_each::<Ascii>(text),
         Charset::Ucs2 => count_each::<Ucs2>(text),
-        Charset::Utf16 => count_each::<Utf16>(text),
+        Charset::Utf16 => count_units(text),
         Charset::Utf32 => count_each::<Utf32>(text),
         Charset::Binary => count_each::<Binary>(text),
     }
 }
 
-/// How many bytes are not 80 to BF: in UTF-8 each character has one of these.
-fn count_firsts(text: &[u8]) -> u32
+/// How many units of two bytes are no high surrogates: in utf16 each character has one of these.
+fn count_units(text: &[u8]) -> u32
     requires { length text.now < 2 ^ 32 }
-    ensures { result ≡ length (filter is_not_behind text.now) }
+    ensures { result ≡ length (filter is_not_high (unit_firsts text.now)) }
 {
     let mut count = 0;
-    for byte in text {
-        count += u32::from(is_not_behind(*byte));
+    let mut rest = text;
+    while let [first, _, behind @ ..] = rest {
+        count += u32::from(is_not_high(*first));
+        rest = behind;
     }
     count
 }
 
-/// Whether the byte is not one of 80 to BF.
+/// Whether the byte is not one of D8 to DB.
 #[inline(always)]
-fn is_not_behind(byte: u8) -> bool
-    ensures { result ≡ is_not_behind byte }
+fn is_not_high(byte: u8) -> bool
+    ensures { result ≡ is_not_high byte }
 {
-    byte < 0x80 || byte >= 0xC0
+    byte < 0xD8 || byte > 0xDB
 }
 
 /// Counts one character after the other.
@@ -102,14 +110,14 @@ fn count_each<E: Encoding>(text: &[u8]) -> u32
 
 /// Goes over `k` characters, or to the text's end.
 fn start_varied(set: Charset, text: &[u8], k: u32) -> usize
-    requires { IsWellFormed set text.now }
+    requires well_formed { IsWellFormed set text.now }
+    requires below_4_gib { length text.now < 2 ^ 32 }
     ensures { IsCharStart set text.now k result }
 {
     match set {
+        Charset::Utf8mb3 | Charset::Utf8mb4 => start_of_first(text, k),
         Charset::Latin1 => start_behind::<Latin1>(text, k),
         Charset::Ascii => start_behind::<Ascii>(text, k),
-        Charset::Utf8mb3 => start_behind::<Utf8mb3>(text, k),
-        Charset::Utf8mb4 => start_behind::<Utf8mb4>(text, k),
         Charset::Ucs2 => start_behind::<Ucs2>(text, k),
         Charset::Utf16 => start_behind::<Utf16>(text, k),
         Charset::Utf32 => start_behind::<Utf32>(text, k),

@@ -5,8 +5,8 @@
 //! `specs/Chars` what a text's characters are by them. Read the modules in this order: `charset`
 //! and `names` (the sets), `char_at` and `spelling`, then one module for each form of spelling,
 //! `bytes`, `latin1`, `utf8` and `wide`; `front` and `put` (one character of any set), `encoding`
-//! and `encodings` (sets as types, for loops that ask once for the set), `count` and `well_formed`
-//! (whole texts), and `laws`, which other crates prove with.
+//! and `encodings` (sets as types, for loops that ask once for the set), `firsts`, `count` and
+//! `well_formed` (whole texts), and `laws`, which other crates prove with.
 #![tactic(auto)]
 
 mod bytes;
@@ -16,6 +16,7 @@ mod collation_id;
 mod count;
 mod encoding;
 mod encodings;
+mod firsts;
 mod front;
 mod latin1;
 mod laws;

@@ -48,21 +48,22 @@ TakesFront-char from to text old new code len fit i e h f =
 
 pub TakesFront-plain : (from to : Charset) (text old new front : List ℕ) (len : ℕ)
     → ((codes front rest : List ℕ) → Spells from codes front → chars from (front ++ rest) ≡ codes ++ chars from rest)
-    → front ≡ take len text → 0 < len → len ≤ length text → length front ≡ len → IsPlain from front → IsPlain to front
-    → new ≡ old ++ front → TakesFront from to text old new len len true
-TakesFront-plain from to text old new front len fronts e positive within long p q w =
+    → front ≡ take len text → 0 < len → len ≤ length text → length front ≡ len → IsPlain from front
+    → option_map (λ piece. old ++ piece) (spell_all to front) ≡ Some new → TakesFront from to text old new len len true
+TakesFront-plain from to text old new front len fronts e positive within long p h =
+    let q = put_parts (spell_all to front) old new h in
     let whole : text ≡ front ++ drop len text = sym (take-append-drop len text) ∙ ap (λ x. x ++ drop len text) (sym e) in
     record {
       codes = front;
-      piece = front;
+      piece = q.0;
       counted = sym long;
       positive = positive;
       within = within;
       short = omega arith;
       its_chars = ap (chars from) whole ∙ fronts front front (drop len text) p.spelled;
-      spelled = ap (spell_all to) (stand_ins from to front front (inr p.below) q.spelled) ∙ q.spelled;
-      written = w;
-      fit_or_lost = all_fit from to front front (inr p.below) q.spelled;
+      spelled = ap (spell_all to) (stand_ins from to front q.0 (inr p.below) q.1) ∙ q.1;
+      written = sym q.2;
+      fit_or_lost = all_fit from to front q.0 (inr p.below) q.1;
     }
 
 -- The loop

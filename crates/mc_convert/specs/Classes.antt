@@ -42,7 +42,8 @@ HasAll set class (code ∷ codes) = HasIn set class code × HasAll set class cod
 -- The class is the repertoire of the text: the least one that has each of its characters.
 pub record IsRepertoire (set : Charset) (text : List ℕ) (class : Repertoire) : Type 0 where
   pub has_all : HasAll set class (chars set text)
-  pub least : (other : Repertoire) → HasAll set other (chars set text) → rank class ≤ rank other
+  pub least : (other : Repertoire) → HasAll set other (chars set text)
+      → rank class ≤ rank other
 
 -- the cap of a set: the class of all its characters
 abbrev pub cap_of : Charset → Repertoire

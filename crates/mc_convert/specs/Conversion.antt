@@ -1,6 +1,8 @@
 -- Conversion between character sets: MySQL 8.0 manual, 10.10 and 12.10.
-use Rattle.std.specs.Prelude.{◌≡◌, ℕ, ◌-◌, ◌%◌, ◌<◌, Bool, true, false, not, ◌&&◌, ◌||◌, List, []}
-use Rattle.std.specs.Prelude.{◌∷◌, ◌++◌, Option, Some, None, length, take, map, slice_index, nat_lt}
+use Rattle.std.specs.Prelude.{◌≡◌, ℕ, ◌-◌, ◌%◌, ◌<◌, Bool, true, false, not}
+use Rattle.std.specs.Prelude.{◌&&◌, ◌||◌, List, []}
+use Rattle.std.specs.Prelude.{◌∷◌, ◌++◌, Option, Some, None, length, take, map}
+use Rattle.std.specs.Prelude.{slice_index, nat_lt}
 use Rattle.std.specs.Prelude.{unwrap_or, MatchBool, if◌then◌else◌}
 use Rattle.std.specs.List.{flat_map}
 use Rattle.std.specs.Option.{is_some}
@@ -41,7 +43,8 @@ converted_text from to text =
 -- `to` has each character of the text.
 abbrev pub AllFit : Charset → Charset → List ℕ → Type 0
 AllFit from to text =
-    (k : ℕ) → k < length (chars from text) → fits from to (slice_index (chars from text) k) ≡ true
+    (k : ℕ) → k < length (chars from text)
+    → fits from to (slice_index (chars from text) k) ≡ true
 
 -- No character is lost.
 abbrev pub IsLossless : Charset → Charset → List ℕ → Type 0
@@ -61,7 +64,8 @@ pub record KeepsBytes (from to : Charset) (text : List ℕ) : Type 0 where
 pub record IsFirstUnfit (from to : Charset) (text : List ℕ) (place : ℕ) : Type 0 where
   pub within : place < length (chars from text)
   pub unfit : fits from to (slice_index (chars from text) place) ≡ false
-  pub earlier_fit : (k : ℕ) → k < place → fits from to (slice_index (chars from text) k) ≡ true
+  pub earlier_fit : (k : ℕ) → k < place
+      → fits from to (slice_index (chars from text) k) ≡ true
 
 -- The first lost character stands at this place. To binary none is lost.
 abbrev pub IsFirstLost : Charset → Charset → List ℕ → ℕ → Type 0

@@ -7,7 +7,9 @@ use Rattle.mc_convert.specs.Conversion.{IsConverted, IsLossless, IsFirstLost}
 
 -- The converted text exactly where no character is lost, else the place of the first lost one.
 -- Want of memory may come before either is known.
-abbrev pub IsExactly : Charset → Charset → List ℕ → Result (List ℕ) ConvertFault → Type 0
-IsExactly from to text (Ok converted) = IsConverted from to text converted × IsLossless from to text
+abbrev pub IsExactly : Charset → Charset → List ℕ → Result (List ℕ) ConvertFault
+    → Type 0
+IsExactly from to text (Ok converted) =
+    IsConverted from to text converted × IsLossless from to text
 IsExactly from to text (Err (Lossy place)) = IsFirstLost from to text place
 IsExactly from to text (Err NoMemory) = ⊤

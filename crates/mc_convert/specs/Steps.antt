@@ -1,5 +1,6 @@
 -- What the private loop of a conversion keeps, a step a time; no public clause cites it.
-use Rattle.std.specs.Prelude.{◌≡◌, ◌<◌, ◌≤◌, ◌&&◌, ℕ, Bool, true, false, List, [], ◌∷◌, ◌++◌}
+use Rattle.std.specs.Prelude.{◌≡◌, ◌<◌, ◌≤◌, ◌&&◌, ℕ, Bool, true, false, List}
+use Rattle.std.specs.Prelude.{[], ◌∷◌, ◌++◌}
 use Rattle.std.specs.Prelude.{Option, length, drop, map, slice_index, MatchOption, Result, Ok}
 use Rattle.std.specs.Prelude.{Err, ⊤}
 use Rattle.std.specs.Option.{is_some}
@@ -14,7 +15,8 @@ use Rattle.mc_convert.specs.Conversion.{AllFit, IsFirstUnfit, fits, stand_in}
 abbrev pub FitOrLost : Charset → Charset → List ℕ → Bool → Type 0
 FitOrLost from to codes true =
     (k : ℕ) → k < length codes → fits from to (slice_index codes k) ≡ true
-FitOrLost from to codes false = (code : ℕ) × (codes ≡ code ∷ []) × (fits from to code ≡ false)
+FitOrLost from to codes false =
+    (code : ℕ) × (codes ≡ code ∷ []) × (fits from to code ≡ false)
 
 -- The first `count` characters of a text, in its first `len` bytes, were converted behind `old`.
 pub record TakesFront (from to : Charset) (text old new : List ℕ) (len count : ℕ)
@@ -31,7 +33,8 @@ pub record TakesFront (from to : Charset) (text old new : List ℕ) (len count :
   pub fit_or_lost : FitOrLost from to codes fit
 
 -- A step took this from the front of the text, or found no character there.
-abbrev pub Takes : Charset → Charset → List ℕ → List ℕ → List ℕ → Result Taken NoMemory → Type 0
+abbrev pub Takes : Charset → Charset → List ℕ → List ℕ → List ℕ
+    → Result Taken NoMemory → Type 0
 Takes from to text old new (Ok (Front count len fit)) =
     TakesFront from to text old new len count fit
 Takes from to text old new (Ok Nothing) = (chars from text ≡ []) × (new ≡ old)

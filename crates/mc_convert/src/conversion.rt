@@ -30,7 +30,7 @@ use crate::steps::convert_each;
 use mc_base::{NoMemory, Text};
 use mc_charset::{
     Ascii, Binary, Charset, Encoding, Latin1, Ucs2, Utf8mb3, Utf8mb4, Utf16, Utf32, bytes_law,
-    chars_law, wider_law,
+    char_count, chars_law, wider_law,
 };
 use std::alloc::Global;
 
@@ -123,13 +123,14 @@ fn fill(
     exact: bool,
     out: &mut Text,
 ) -> Result<Option<usize>, NoMemory>
-    requires { out.old ≡ [] }
+    requires empty { out.old ≡ [] }
+    requires well_formed { IsWellFormed from text.now }
     ensures spells { IfOk result (λ lost. UnlessStopped exact lost
         (Spells to (map (stand_in from to) (chars from text.now)) out.new)) }
     ensures lost { IfOk result (λ lost. IsLostPlace from to text.now lost) }
     ensures within { IfOk result (λ lost. IfSome lost (λ place. place < length text.now)) }
 {
-    out.reserve(room(from, to, text.len()))?;
+    out.reserve(room(from, to, text))?;
     match from {
         Charset::Latin1 => fill_from::<Latin1>(to, text, exact, out),
         Charset::Ascii => fill_from::<Ascii>(to, text, exact, out),
@@ -167,15 +168,38 @@ fn fill_from<F: Encoding>(
     }
 }
 
-/// Room for a converted text: a byte for each unit where the new set has one byte a character, else
-/// as many of the longer units as the text has units, which may be too few for UTF-8.
-fn room(from: Charset, to: Charset, len: usize) -> usize {
-    let units = len / unit(from);
+/// Room for a converted text: what its characters take in a set of one width; in utf16 as much as
+/// they may take; in UTF-8 as much as they take now, which may be too little.
+fn room(from: Charset, to: Charset, text: &[u8]) -> usize
+    requires { IsWellFormed from text.now }
+{
+    let count = count_at_most(from, text);
     match to {
-        Charset::Latin1 | Charset::Ascii | Charset::Binary => units,
-        Charset::Utf8mb3 | Charset::Utf8mb4 | Charset::Ucs2 | Charset::Utf16 | Charset::Utf32 =>
-            units.saturating_mul(unit(to).max(unit(from))),
+        Charset::Latin1 | Charset::Ascii | Charset::Binary => count,
+        Charset::Utf8mb3 | Charset::Utf8mb4 => text.len(),
+        Charset::Ucs2 => count.saturating_mul(2),
+        Charset::Utf16 => count
+            .saturating_add(pairs_at_most(count, text.len()))
+            .saturating_mul(2),
+        Charset::Utf32 => count.saturating_mul(4),
     }
+}
+
+/// How many characters the text has; of a text of 4 GiB or more, how many it may have.
+fn count_at_most(set: Charset, text: &[u8]) -> usize
+    requires { IsWellFormed set text.now }
+{
+    if text.len() < 0x1_0000_0000 {
+        char_count(set, text) as usize
+    } else {
+        text.len() / unit(set)
+    }
+}
+
+/// How many of so many characters may be above U+FFFF, where these have four bytes each and the
+/// others at least one.
+fn pairs_at_most(count: usize, len: usize) -> usize {
+    count.min(len.saturating_sub(count) / 3)
 }
 
 /// Whether the set is binary.

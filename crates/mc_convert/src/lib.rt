@@ -2,8 +2,8 @@
 //! manual, 10.2.1, 10.10 and 12.10.
 //!
 //! `specs/Conversion` says what a converted text is, and `specs/Classes` what a repertoire is.
-//! Read the modules in this order: `plain` (texts that are ASCII), `steps` (one loop for each pair
-//! of sets), `conversion` (`convert`: a character that the new set lacks becomes `?`), `exact`
+//! Read the modules in this order: `plain` and `plain_front` (texts that are ASCII, and fronts of
+//! texts), `steps` (one loop for each pair of sets), `conversion` (`convert`: a character that the new set lacks becomes `?`), `exact`
 //! (`convert_exact`: it is refused), `padding` (`reinterpret`: bytes taken for a text),
 //! `repertoire`, and `laws`, which say how repertoires and conversion go together.
 #![tactic(auto)]
@@ -13,6 +13,7 @@ mod exact;
 mod laws;
 mod padding;
 mod plain;
+mod plain_front;
 mod repertoire;
 mod steps;
 

@@ -13,6 +13,7 @@ pub(crate) fn are_plain(from: Charset, to: Charset, text: &[u8]) -> bool
 }
 
 /// Whether the set spells the characters below U+0080 as their bytes and the text has no others.
+#[inline(always)]
 pub(crate) fn is_plain(set: Charset, text: &[u8]) -> bool
     ensures { OnTrue result (IsPlain set text.now) }
 {

@@ -20,14 +20,11 @@ ghost use Rattle.std.specs.Prelude.{
 };
 
 use crate::conversion::is_binary;
-use crate::plain::are_plain;
+use crate::plain_front::{FRONT_LEN, plain_front, put_plain};
 use mc_base::{NoMemory, Text};
 use mc_charset::{CharAt, Encoding, PutChar, chars_law, next_in, put_in};
 
 const QUESTION_MARK: u32 = 0x3F;
-
-/// How many bytes of ASCII are taken at once.
-const FRONT_LEN: usize = 8;
 
 /// What one step of a conversion took from the front of a text.
 #[derive(Clone, Copy)]
@@ -88,30 +85,13 @@ fn first_lost(lost: Option<usize>, place: usize, fit: bool) -> Option<usize>
 fn take_front<F: Encoding, T: Encoding>(text: &[u8], out: &mut Text) -> Result<Taken, NoMemory>
     ensures { Takes F.set T.set text.now out.old out.new result }
 {
-    match plain_front::<F, T>(text) {
+    match plain_front::<F>(text) {
         Some(front) => take_plain::<F, T>(text, front, out),
         None => take_char::<F, T>(text, out),
     }
 }
 
-/// The first bytes, where they are ASCII and both sets spell these characters so. A look at both
-/// ends of them comes first.
-#[inline(always)]
-fn plain_front<F: Encoding, T: Encoding>(text: &[u8]) -> Option<&[u8; 8]>
-    ensures { IfSome result (λ front. (front.now ≡ take 8 text.now) × (8 ≤ length text.now)
-        × IsPlain F.set front.now × IsPlain T.set front.now) }
-{
-    let Some((front, _)) = text.split_first_chunk::<FRONT_LEN>() else {
-        return None;
-    };
-    if front[0] < 0x80 && front[7] < 0x80 && are_plain(F::charset(), T::charset(), front) {
-        Some(front)
-    } else {
-        None
-    }
-}
-
-/// Appends these bytes, which stand at the front of the text.
+/// Appends the characters of these bytes, which stand at the front of the text.
 #[inline(always)]
 fn take_plain<F: Encoding, T: Encoding>(
     text: &[u8],
@@ -120,12 +100,11 @@ fn take_plain<F: Encoding, T: Encoding>(
 ) -> Result<Taken, NoMemory>
     requires front { front.now ≡ take 8 text.now }
     requires within { 8 ≤ length text.now }
-    requires from { IsPlain F.set front.now }
-    requires to { IsPlain T.set front.now }
+    requires plain { IsPlain F.set front.now }
     ensures { Takes F.set T.set text.now out.old out.new result }
 {
     chars_law();
-    match out.extend_from_slice(front) {
+    match put_plain::<T>(front, out) {
         Ok(()) => Ok(Taken::Front {
             count: FRONT_LEN,
             len: FRONT_LEN,

@@ -1,9 +1,14 @@
 -- What may stand next.
-use Rattle.std.proofs.Common.{◌≡◌, ◌⊎◌, inl, inr, ◌&&◌, ◌||◌, not, Bool, true, false, List, [], ◌∷◌, ◌++◌, refl, sym, ap, ◌∙◌, append_assoc, Option, Some, None, IsTrue, subst}
+use Rattle.std.proofs.Common.{◌≡◌, ◌⊎◌, inl, inr, ◌&&◌, ◌||◌, not, Bool, true, false, List, [], ◌∷◌}
+use Rattle.std.proofs.Common.{◌++◌, refl, sym, ap, ◌∙◌, append_assoc, Option, Some, None, IsTrue}
+use Rattle.std.proofs.Common.{subst}
 use Rattle.mc_grammar.specs.Grammar.{Grammar, Symbol, one, rule}
 use Rattle.mc_grammar.specs.Reading.{Forest, bare, leaf, node, tokens_of, IsOneOf, Fits}
 use Rattle.std.specs.List.{list_any}
-use Rattle.mc_grammar.specs.Ahead.{Ahead, Tables, Meets, Begins, StandsBehind, MeetsWhole, BeginsWhole, is_behind, every, are_apart_next, is_within_next, exclude, is_part, when, may_be_none, starts, is_followed, is_covered, Covers}
+use Rattle.mc_grammar.specs.Ahead.{Ahead, Tables, Meets, Begins, StandsBehind, MeetsWhole}
+use Rattle.mc_grammar.specs.Ahead.{BeginsWhole, is_behind, every, are_apart_next, is_within_next}
+use Rattle.mc_grammar.specs.Ahead.{exclude, is_part, when, may_be_none, starts, is_followed}
+use Rattle.mc_grammar.specs.Ahead.{is_covered, Covers}
 
 pub both : (a b : Bool) → IsTrue (a && b) → IsTrue a × IsTrue b
 both true b h = (refl, h)
@@ -121,8 +126,8 @@ module _ {K R A T : Type 0} (g : Grammar K R A T) (t : Tables K R) where
     both_hold true b h k = k
     both_hold false b h k = absurd (cc)
 
-    -- What begins as the symbols alone allow, or as what stands after symbols that may read nothing,
-    -- begins as the symbols with what stands after them allow.
+    -- What begins as the symbols alone allow, or as what stands after symbols that may read
+    -- nothing, begins as the symbols with what stands after them allow.
     joined : (ss : List (Symbol K R)) (after : Ahead K) (tokens : List T)
         → (IsTrue (may_be_none t ss) × BeginsWhole g t after tokens)
         ⊎ BeginsWhole g t (starts t ss []) tokens → BeginsWhole g t (starts t ss after) tokens
@@ -191,11 +196,11 @@ module _ {K R A T : Type 0} (g : Grammar K R A T) (t : Tables K R) where
     begins_plain (k ∷ ks) tokens b =
         elim b [ inl m ↦ inl (plain k tokens m) | inr c ↦ inr (begins_plain ks tokens c) ]
 
-    stands_behind : (next : Ahead K) (said : Option (Ahead K)) (tokens : List T)
+    as_said : (next : Ahead K) (said : Option (Ahead K)) (tokens : List T)
         → IsTrue (is_behind t next said) → BeginsWhole g t next tokens
         → StandsBehind g t said tokens
-    stands_behind next None tokens h b = tt
-    stands_behind next (Some said) tokens h b =
+    as_said next None tokens h b = tt
+    as_said next (Some said) tokens h b =
         begins_plain said tokens (begins_part next said tokens h b)
 
     -- A forest reads nothing, where its symbols may, or its tokens begin as its symbols allow.
@@ -253,7 +258,7 @@ module _ {K R A T : Type 0} (g : Grammar K R A T) (t : Tables K R) where
         of_front ss after h rest (front ss after h rest p.1 w'.1 b) b in
         inr (inl (
           p.0,
-          stands_behind (starts t ss after) (t.behind k)
+          as_said (starts t ss after) (t.behind k)
               (tokens_of h ++ rest) w'.0 next,
         ))
     front (one k ∷ ss) after (node a x h) rest p w b = absurd p

@@ -1,11 +1,15 @@
 -- Failing inside the alternatives of a rule: no place wants the next token, or each wants it free.
-use Rattle.std.proofs.Common.{◌≡◌, inl, inr, ℕ, ◌+◌, ◌≤◌, Bool, not, List, [], ◌∷◌, ◌++◌, length, refl, sym, ap, ◌∙◌, append_assoc, append-nil, map, IsTrue, subst, Option}
+use Rattle.std.proofs.Common.{◌≡◌, inl, inr, ℕ, ◌+◌, ◌≤◌, Bool, not, List, [], ◌∷◌, ◌++◌, length}
+use Rattle.std.proofs.Common.{refl, sym, ap, ◌∙◌, append_assoc, append-nil, map, IsTrue, subst}
+use Rattle.std.proofs.Common.{Option}
 use Rattle.mc_grammar.specs.Grammar.{Symbol, one, rule}
 use Rattle.mc_grammar.specs.Reading.{leaf, IsOneOf}
 use Rattle.mc_grammar.specs.Ahead.{Ahead, every}
 use Rattle.mc_grammar.specs.Language.{Language, Reads, IsSound}
 use Rattle.mc_grammar.specs.Descent.{Allows, Alike}
-use Rattle.mc_grammar.specs.Places.{Place, before, passes, all_pass, is_out, all_out, is_barred, Sees, ReadsOne, IsReached, EachReached, Inside, Fails, IsTooDeep}
+use Rattle.mc_grammar.specs.Places.{Place, before, passes, all_pass, is_out, all_out, is_barred}
+use Rattle.mc_grammar.specs.Places.{Sees, ReadsOne, IsReached, EachReached, Inside, Fails}
+use Rattle.mc_grammar.specs.Places.{IsTooDeep}
 use Rattle.mc_grammar.specs.Completions.{Completions, completion, Complete}
 use Rattle.mc_grammar.proofs.Ahead.{both, chosen}
 use Rattle.mc_grammar.proofs.Steps.{reads_append, reads_closed, reads_token, means_reads}
@@ -71,32 +75,36 @@ module _ {K R A S T V : Type 0} (l : Language K R A S T V) where
       → IsTrue (all_pass l after (left ∷ lefts) after')
       → (o : Fails l after' q rest v) → n ≤ length o.front + 1
       → Fails l after r tokens v
-  stuck_within d c f after after' n r q places left lefts vs tokens front rest v p e h o lt = record {
-    front = front ++ o.front;
-    split = p.split ∙ ap (λ (x : List S). front ++ x) o.split ∙ sym (append_assoc front o.front v);
-    stuck = record {
-      stops = λ ks w a same s. no_more ks w a same
-          (subst (λ (x : List (Place K R A)). ReadsOne l x ks (map l.free o.front ++ w)) e
-          (p.takes ks (map l.free o.front ++ w) a
-          (subst (λ (x : List S). Alike l n (map l.free o.front ++ w) x) (sym o.split)
-          (alike_free l n 1 o.front w v lt same))
-          (subst (λ (x : List T). Reads l (rule r ∷ ks) x)
-          (marked_twice l l.free front o.front w) s)));
-      goes = (
-        o.stuck.goes.0 ++ completion c left.left,
-        subst (λ (x : List T). Reads l (rule r ∷ []) x) joined
-            (goes_on c f r front vs (record { alternative = left.alternative; left = rule q ∷ left.left })
-            reached.0 ((map l.bound o.front ++ o.stuck.goes.0) ++ completion c left.left)
-            (reads_append l (rule q ∷ []) left.left (map l.bound o.front ++ o.stuck.goes.0)
-            (completion c left.left) o.stuck.goes.1 (completes l c f left.left))),
-      );
-    };
-  }
+  stuck_within d c f after after' n r q places left lefts vs tokens front rest v p e h o lt =
+      record {
+        front = front ++ o.front;
+        split = p.split ∙ ap (λ (x : List S). front ++ x) o.split
+            ∙ sym (append_assoc front o.front v);
+        stuck = record {
+          stops = λ ks w a same s. no_more ks w a same
+              (subst (λ (x : List (Place K R A)). ReadsOne l x ks (map l.free o.front ++ w)) e
+              (p.takes ks (map l.free o.front ++ w) a
+              (subst (λ (x : List S). Alike l n (map l.free o.front ++ w) x) (sym o.split)
+              (alike_free l n 1 o.front w v lt same))
+              (subst (λ (x : List T). Reads l (rule r ∷ ks) x)
+              (marked_twice l l.free front o.front w) s)));
+          goes = (
+            o.stuck.goes.0 ++ completion c left.left,
+            subst (λ (x : List T). Reads l (rule r ∷ []) x) joined
+                (goes_on c f r front vs
+                (record { alternative = left.alternative; left = rule q ∷ left.left }) reached.0
+                ((map l.bound o.front ++ o.stuck.goes.0) ++ completion c left.left)
+                (reads_append l (rule q ∷ []) left.left (map l.bound o.front ++ o.stuck.goes.0)
+                (completion c left.left) o.stuck.goes.1 (completes l c f left.left))),
+          );
+        };
+      }
     where
       reached : EachReached l r front vs (before (rule q) (left ∷ lefts))
       reached = subst (λ (x : List (Place K R A)). EachReached l r front vs x) e p.reached
 
-      joined : map l.bound front ++ ((map l.bound o.front ++ o.stuck.goes.0) ++ completion c left.left)
+      joined : map l.bound front
+          ++ ((map l.bound o.front ++ o.stuck.goes.0) ++ completion c left.left)
           ≡ map l.bound (front ++ o.front) ++ (o.stuck.goes.0 ++ completion c left.left)
       joined = ap (λ (x : List T). map l.bound front ++ x)
           (append_assoc (map l.bound o.front) o.stuck.goes.0 (completion c left.left))
@@ -214,28 +222,31 @@ module _ {K R A S T V : Type 0} (l : Language K R A S T V) where
       → IsTrue (all_pass l after (left ∷ lefts) after')
       → (o : IsTooDeep l after' q rest v) → n ≤ length o.front + 1
       → IsTooDeep l after r tokens v
-  too_deep_within d c f after after' n r q places left lefts vs tokens front rest v p e h o lt = record {
-    front = front ++ o.front;
-    token = o.token;
-    behind = o.behind;
-    split = p.split ∙ ap (λ (x : List S). front ++ x) o.split ∙ sym (append_assoc front o.front v);
-    next = o.next;
-    deep = record {
-      stops = λ ks w a s. none (left ∷ lefts) ks w a
-          (λ x i. passed l after after' x (left ∷ lefts) h i)
-          (subst (λ (x : List (Place K R A)). ReadsOne l x ks
-          (map l.bound o.front ++ (l.bound o.token ∷ w))) e
-          (p.takes ks (map l.bound o.front ++ (l.bound o.token ∷ w)) a
-          (subst (λ (x : List S). Alike l n (map l.bound o.front ++ (l.bound o.token ∷ w)) x)
-          (sym (o.split ∙ ap (λ (y : List S). o.front ++ y) o.next))
-          (alike_bound l n 1 o.front (l.bound o.token ∷ w) (o.token ∷ o.behind) lt (inr refl, tt)))
-          (reads_freed l d (rule r ∷ ks) front (map l.bound o.front ++ (l.bound o.token ∷ w))
-          (subst (λ (x : List T). Reads l (rule r ∷ ks) x)
-          (marked_twice l l.bound front o.front (l.bound o.token ∷ w)) s))));
-      goes = (o.deep.goes.0 ++ completion c left.left, on_bound);
-      goes_free = (o.deep.goes_free.0 ++ completion c left.left, on_free);
-    };
-  }
+  too_deep_within d c f after after' n r q places left lefts vs tokens front rest v p e h o lt =
+      record {
+        front = front ++ o.front;
+        token = o.token;
+        behind = o.behind;
+        split = p.split ∙ ap (λ (x : List S). front ++ x) o.split
+            ∙ sym (append_assoc front o.front v);
+        next = o.next;
+        deep = record {
+          stops = λ ks w a s. none (left ∷ lefts) ks w a
+              (λ x i. passed l after after' x (left ∷ lefts) h i)
+              (subst (λ (x : List (Place K R A)). ReadsOne l x ks
+              (map l.bound o.front ++ (l.bound o.token ∷ w))) e
+              (p.takes ks (map l.bound o.front ++ (l.bound o.token ∷ w)) a
+              (subst (λ (x : List S). Alike l n (map l.bound o.front ++ (l.bound o.token ∷ w)) x)
+              (sym (o.split ∙ ap (λ (y : List S). o.front ++ y) o.next))
+              (alike_bound l n 1 o.front (l.bound o.token ∷ w) (o.token ∷ o.behind) lt
+              (inr refl, tt)))
+              (reads_freed l d (rule r ∷ ks) front (map l.bound o.front ++ (l.bound o.token ∷ w))
+              (subst (λ (x : List T). Reads l (rule r ∷ ks) x)
+              (marked_twice l l.bound front o.front (l.bound o.token ∷ w)) s))));
+          goes = (o.deep.goes.0 ++ completion c left.left, on_bound);
+          goes_free = (o.deep.goes_free.0 ++ completion c left.left, on_free);
+        };
+      }
     where
       reached : EachReached l r front vs (before (rule q) (left ∷ lefts))
       reached = subst (λ (x : List (Place K R A)). EachReached l r front vs x) e p.reached
@@ -289,53 +300,5 @@ module _ {K R A S T V : Type 0} (l : Language K R A S T V) where
       different : ◌≡◌ {A = List (Place K R A)} (place ∷ places) [] → ⊥
       different e = cc
   too_deep_behind d c f after after' n r q place places (x ∷ xs) vs tokens front rest v p e h o lt =
-      too_deep_within d c f after after' n r q (place ∷ places) x xs vs tokens front rest v p e h o lt
-
-  -- The fronts that they fail with.
-  pub stuck_here_front : (d : IsSound l) (c : Completions K R T) (f : Complete l c)
-      (after : Ahead K) (n : ℕ) (r : R)
-      (place : Place K R A) (places : List (Place K R A)) (vs : List V) (tokens front rest : List S)
-      (may : Option K → Bool)
-      → (p : Inside l after n r (place ∷ places) vs tokens front rest) → (s : Sees l 1 rest may)
-      → (lt : n ≤ 1) → (h : IsTrue (all_out l may after (place ∷ places)))
-      → (stuck_here d c f after n r place places vs tokens front rest may p s lt h).front ≡ front
-  unfolding stuck_here
-  stuck_here_front d c f after n r place places vs tokens front rest may p s lt h = refl
-
-  pub stuck_within_front : (d : IsSound l) (c : Completions K R T) (f : Complete l c)
-      (after after' : Ahead K) (n : ℕ) (r q : R)
-      (places : List (Place K R A)) (left : Place K R A) (lefts : List (Place K R A))
-      (vs : List V) (tokens front rest v : List S)
-      → (p : Inside l after n r places vs tokens front rest)
-      → (e : places ≡ before (rule q) (left ∷ lefts))
-      → (h : IsTrue (all_pass l after (left ∷ lefts) after'))
-      → (o : Fails l after' q rest v) → (lt : n ≤ length o.front + 1)
-      → (stuck_within d c f after after' n r q places left lefts vs tokens front rest v p e h o
-      lt).front ≡ front ++ o.front
-  unfolding stuck_within
-  stuck_within_front d c f after after' n r q places left lefts vs tokens front rest v p e h o lt =
-      refl
-
-  pub too_deep_here_front : (d : IsSound l) (c : Completions K R T) (f : Complete l c)
-      (after : Ahead K) (n : ℕ) (r : R)
-      (place : Place K R A) (places : List (Place K R A)) (vs : List V) (tokens front : List S)
-      (s : S) (rest : List S)
-      → (p : Inside l after n r (place ∷ places) vs tokens front (s ∷ rest)) → (lt : n ≤ 1)
-      → (h : IsTrue (every (λ p. is_barred l s p.left) (place ∷ places)))
-      → (too_deep_here d c f after n r place places vs tokens front s rest p lt h).front ≡ front
-  unfolding too_deep_here
-  too_deep_here_front d c f after n r place places vs tokens front s rest p lt h = refl
-
-  pub too_deep_within_front : (d : IsSound l) (c : Completions K R T) (f : Complete l c)
-      (after after' : Ahead K) (n : ℕ) (r q : R)
-      (places : List (Place K R A)) (left : Place K R A) (lefts : List (Place K R A))
-      (vs : List V) (tokens front rest v : List S)
-      → (p : Inside l after n r places vs tokens front rest)
-      → (e : places ≡ before (rule q) (left ∷ lefts))
-      → (h : IsTrue (all_pass l after (left ∷ lefts) after'))
-      → (o : IsTooDeep l after' q rest v) → (lt : n ≤ length o.front + 1)
-      → (too_deep_within d c f after after' n r q places left lefts vs tokens front rest v p e h o
-      lt).front ≡ front ++ o.front
-  unfolding too_deep_within
-  too_deep_within_front d c f after after' n r q places left lefts vs tokens front rest v p e h o lt
-      = refl
+      too_deep_within d c f after after' n r q (place ∷ places) x xs vs tokens front rest v p e h o
+      lt

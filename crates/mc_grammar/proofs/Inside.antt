@@ -1,15 +1,20 @@
 -- Going through the alternatives of a rule: entering, looking, taking a token, reading a rule,
 -- leaving.
-use Rattle.std.proofs.Common.{◌≡◌, ◌⊎◌, inl, inr, ℕ, ◌+◌, ◌-◌, ◌≤◌, max, Bool, ◌||◌, true, false, not, List, [], ◌∷◌, ◌++◌, length, refl, sym, ap, ◌∙◌, append_assoc, append-nil, map, IsTrue, subst, arith, Option}
+use Rattle.std.proofs.Common.{◌≡◌, ◌⊎◌, inl, inr, ℕ, ◌+◌, ◌-◌, ◌≤◌, max, Bool, ◌||◌, true, false}
+use Rattle.std.proofs.Common.{not, List, [], ◌∷◌, ◌++◌, length, refl, sym, ap, ◌∙◌, append_assoc}
+use Rattle.std.proofs.Common.{append-nil, map, IsTrue, subst, arith, Option}
 use Rattle.mc_grammar.specs.Grammar.{Symbol, one, rule}
 use Rattle.mc_grammar.specs.Reading.{bare, IsOneOf}
 use Rattle.std.specs.List.{list_any}
 use Rattle.mc_grammar.specs.Ahead.{Ahead, BeginsWhole, MeetsWhole, every, starts, is_followed}
 use Rattle.mc_grammar.specs.Language.{Language, Reads, Means, IsSound}
 use Rattle.mc_grammar.specs.Descent.{Allows, Alike, Leads}
-use Rattle.mc_grammar.specs.Places.{Place, behind_next, before, entries, passes, all_pass, is_out, kept, is_next, Sees, ReadsOne, IsReached, EachReached, Inside, Done}
+use Rattle.mc_grammar.specs.Places.{Place, behind_next, before, entries, passes, all_pass, is_out}
+use Rattle.mc_grammar.specs.Places.{kept, is_next, Sees, ReadsOne, IsReached, EachReached, Inside}
+use Rattle.mc_grammar.specs.Places.{Done}
 use Rattle.mc_grammar.proofs.Ahead.{both, chosen, begins_as}
-use Rattle.mc_grammar.proofs.Steps.{reads_append, Parts, reads_parts, Opened, reads_opened, reads_closed, reads_token, means_reads}
+use Rattle.mc_grammar.proofs.Steps.{reads_append, Parts, reads_parts, Opened, reads_opened}
+use Rattle.mc_grammar.proofs.Steps.{reads_closed, reads_token, means_reads}
 use Rattle.mc_grammar.proofs.Marks.{alike_free, alike_shorter}
 use Rattle.mc_grammar.proofs.Paths.{allows_more, reads_at, marked_twice}
 use Rattle.mc_grammar.proofs.Values.{means_append, means_token, means_node, means_at}
@@ -102,7 +107,8 @@ module _ {K R A S T V : Type 0} (l : Language K R A S T V) where
       by_test : (ReadsOne l qs ks w → ReadsOne l (kept l may after qs) ks w)
           → (b : Bool) → is_out l may after q.left ≡ b
           → Reads l (q.left ++ ks) w ⊎ ReadsOne l qs ks w
-          → ReadsOne l (elim b [ true ↦ kept l may after qs | false ↦ q ∷ kept l may after qs ]) ks w
+          → ReadsOne l
+          (elim b [ true ↦ kept l may after qs | false ↦ q ∷ kept l may after qs ]) ks w
       by_test others true e (inl r) =
           absurd (out_reads_nothing d after look rest may q.left ks w s a same e r)
       by_test others true e (inr r) = others r

@@ -15,4 +15,5 @@ pub mod Rooms
 pub mod RoomTables
 pub mod Tops
 pub mod Ways
+pub mod Excludes
 pub mod StandardFacts

@@ -1,5 +1,6 @@
 -- Chains: starting, one more link, ending.
-use Rattle.std.proofs.Common.{◌≡◌, ℕ, ◌+◌, ◌≤◌, List, [], ◌∷◌, ◌++◌, length, refl, sym, ap, ◌∙◌, append_assoc, append-nil, subst, arith}
+use Rattle.std.proofs.Common.{◌≡◌, ℕ, ◌+◌, ◌≤◌, List, [], ◌∷◌, ◌++◌, length, refl, sym, ap, ◌∙◌}
+use Rattle.std.proofs.Common.{append_assoc, append-nil, subst, arith}
 use Rattle.mc_grammar.specs.Grammar.{Symbol, rule}
 use Rattle.mc_grammar.specs.Ahead.{Ahead}
 use Rattle.mc_grammar.specs.Language.{Language, Means, IsSound}
@@ -44,7 +45,8 @@ module _ {K R A S T V X : Type 0} (l : Language K R A S T V) where
       (links : List X) (tokens front rest : List S) (a : A) (vs : List V) (x : X)
       (front' v : List S)
       → Chain l after n more value links tokens front rest
-      → Inside l after m more (record { alternative = a; left = rule more ∷ [] } ∷ []) vs rest front' v
+      → Inside l after m more (record { alternative = a; left = rule more ∷ [] } ∷ []) vs rest
+      front' v
       → ((later : List S) (others : List X)
       → l.node_value a (front' ++ later) (vs ++ (value others ∷ [])) ≡ value (x ∷ others))
       → n ≤ length front' + m

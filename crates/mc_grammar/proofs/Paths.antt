@@ -1,5 +1,6 @@
 -- Paths of a descent: one after another, and before symbols that stay as they are.
-use Rattle.std.proofs.Common.{◌≡◌, inl, inr, ℕ, ◌+◌, ◌≤◌, List, [], ◌∷◌, ◌++◌, length, refl, sym, ap, ◌∙◌, append_assoc, append-nil, map, IsTrue, subst, None}
+use Rattle.std.proofs.Common.{◌≡◌, inl, inr, ℕ, ◌+◌, ◌≤◌, List, [], ◌∷◌, ◌++◌, length, refl, sym}
+use Rattle.std.proofs.Common.{ap, ◌∙◌, append_assoc, append-nil, map, IsTrue, subst, None}
 use Rattle.std.proofs.lemmas.List.{map-append}
 use Rattle.mc_grammar.specs.Grammar.{Symbol, rule}
 use Rattle.mc_grammar.specs.Ahead.{Ahead, BeginsWhole, is_part, starts, is_followed}

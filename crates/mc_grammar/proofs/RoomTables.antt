@@ -1,12 +1,16 @@
 -- The tables of a grammar with room are right where those of the grammar are.
-use Rattle.std.proofs.Common.{◌≡◌, inl, inr, ℕ, Bool, true, false, not, ◌&&◌, ◌||◌, List, [], ◌∷◌, ◌++◌, refl, sym, ap, ◌∙◌, map, IsTrue, subst, Option, Some, None}
+use Rattle.std.proofs.Common.{◌≡◌, inl, inr, ℕ, Bool, true, false, not, ◌&&◌, ◌||◌, List, [], ◌∷◌}
+use Rattle.std.proofs.Common.{◌++◌, refl, sym, ap, ◌∙◌, map, IsTrue, subst, Option, Some, None}
 use Rattle.std.specs.Option.{option_map}
 use Rattle.mc_grammar.specs.Grammar.{Grammar, Symbol, one, rule}
 use Rattle.std.specs.List.{list_any}
-use Rattle.mc_grammar.specs.Ahead.{Ahead, Tables, Meets, Begins, StandsBehind, MeetsWhole, every, is_within_next, is_part, when, may_be_none, starts, is_behind, is_followed, is_covered, Covers}
+use Rattle.mc_grammar.specs.Ahead.{Ahead, Tables, Meets, Begins, StandsBehind, MeetsWhole, every}
+use Rattle.mc_grammar.specs.Ahead.{is_within_next, is_part, when, may_be_none, starts, is_behind}
+use Rattle.mc_grammar.specs.Ahead.{is_followed, is_covered, Covers}
 use Rattle.mc_grammar.specs.Language.{IsSound}
 use Rattle.mc_grammar.specs.Nest.{Marked, bound, free, unmarked, other_marks}
-use Rattle.mc_grammar.specs.Room.{Admitted, with_room, admitted, is_admitted, room_grammar, room_tables, room_language}
+use Rattle.mc_grammar.specs.Room.{Admitted, with_room, admitted, is_admitted, room_grammar}
+use Rattle.mc_grammar.specs.Room.{room_tables, room_language}
 use Rattle.mc_grammar.proofs.Ahead.{both}
 use Rattle.mc_grammar.proofs.Rooms.{admitted_class}
 
@@ -145,7 +149,8 @@ module _ {K R A T : Type 0} (g : Grammar K R A T) (t : Tables K R) (deeper : A �
       (every_same r room as')
 
   plain_meets : (k : Option K) (w : List (Marked T))
-      → Meets (room_grammar g t deeper) (option_map (λ c. record { class = c; has_room = true }) k) w
+      → Meets (room_grammar g t deeper)
+      (option_map (λ c. record { class = c; has_room = true }) k) w
       → Meets g k (map (λ x. unmarked x) w)
   plain_meets None [] m = m
   plain_meets None (x ∷ w) m = m
@@ -175,7 +180,8 @@ module _ {K R A T : Type 0} (g : Grammar K R A T) (t : Tables K R) (deeper : A �
   class_admitted k (free token) e h = h
 
   room_meets : (k : Option K) (w : List (Marked T)) → Meets g k (map (λ x. unmarked x) w)
-      → Meets (room_grammar g t deeper) (option_map (λ c. record { class = c; has_room = true }) k) w
+      → Meets (room_grammar g t deeper)
+      (option_map (λ c. record { class = c; has_room = true }) k) w
   room_meets None [] m = m
   room_meets None (x ∷ w) m = m
   room_meets (Some k) [] m = m

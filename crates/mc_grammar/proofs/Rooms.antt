@@ -1,13 +1,16 @@
 -- A grammar with room reads exactly what the grammar reads with no bound token too deep.
-use Rattle.std.proofs.Common.{◌≡◌, inl, inr, ℕ, zero, suc, ◌-◌, ◌≤◌, Bool, true, false, ◌&&◌, List, [], ◌∷◌, ◌++◌, refl, sym, ap, ◌∙◌, map, IsTrue, subst, arith}
+use Rattle.std.proofs.Common.{◌≡◌, inl, inr, ℕ, zero, suc, ◌-◌, ◌≤◌, Bool, true, false, ◌&&◌, List}
+use Rattle.std.proofs.Common.{[], ◌∷◌, ◌++◌, refl, sym, ap, ◌∙◌, map, IsTrue, subst, arith}
 use Rattle.std.proofs.lemmas.List.{map-append}
 use Rattle.mc_grammar.specs.Grammar.{Grammar, Symbol, one, rule}
 use Rattle.mc_grammar.specs.Reading.{Forest, bare, leaf, node, tokens_of, IsOneOf, Fits, IsReading}
 use Rattle.mc_grammar.specs.Ahead.{Tables}
 use Rattle.mc_grammar.specs.Language.{Language, values_of, Reads}
 use Rattle.mc_grammar.specs.Completions.{Completions, Complete}
-use Rattle.mc_grammar.specs.Nest.{Marked, bound, free, unmarked, first_mark, other_marks, Nested, level_at, nested, AreWithin}
-use Rattle.mc_grammar.specs.Room.{Roomed, Admitted, any_room, room_at, with_room, is_admitted, room_grammar, room_language, free_completions}
+use Rattle.mc_grammar.specs.Nest.{Marked, bound, free, unmarked, first_mark, other_marks, Nested}
+use Rattle.mc_grammar.specs.Nest.{level_at, nested, AreWithin}
+use Rattle.mc_grammar.specs.Room.{Roomed, Admitted, any_room, room_at, with_room, is_admitted}
+use Rattle.mc_grammar.specs.Room.{room_grammar, room_language, free_completions}
 use Rattle.mc_grammar.proofs.Ahead.{both}
 
 -- Levels that are left, and the level.
@@ -42,7 +45,8 @@ within_append limit (x ∷ xs) ys (free t ∷ ts) us p q =
     (p.0, within_append limit xs ys ts us p.1 q)
 
 -- Marked tokens of two forests side by side.
-record Beside (T : Type 0) (limit : ℕ) (xs ys : List (Nested T)) (ts : List (Marked T)) : Type 0 where
+record Beside (T : Type 0) (limit : ℕ) (xs ys : List (Nested T))
+    (ts : List (Marked T)) : Type 0 where
   first : List (Marked T)
   second : List (Marked T)
   joined : first ++ second ≡ ts

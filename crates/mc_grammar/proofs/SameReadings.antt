@@ -1,11 +1,15 @@
 -- Where the alternatives are told apart, a list of tokens has at most one reading.
-use Rattle.std.proofs.Common.{◌≡◌, ◌⊎◌, inl, inr, ◌&&◌, ℕ, zero, suc, ◌+◌, ◌<◌, ◌≤◌, Bool, true, false, List, [], ◌∷◌, ◌++◌, refl, sym, ap, ◌∙◌, append_assoc, arith, IsTrue, subst}
+use Rattle.std.proofs.Common.{◌≡◌, ◌⊎◌, inl, inr, ◌&&◌, ℕ, zero, suc, ◌+◌, ◌<◌, ◌≤◌, Bool, true}
+use Rattle.std.proofs.Common.{false, List, [], ◌∷◌, ◌++◌, refl, sym, ap, ◌∙◌, append_assoc, arith}
+use Rattle.std.proofs.Common.{IsTrue, subst}
 use Rattle.mc_grammar.specs.Grammar.{Grammar, Symbol, one, rule}
 use Rattle.mc_grammar.specs.Reading.{Forest, bare, leaf, node, tokens_of, IsOneOf, Fits, IsReading}
-use Rattle.mc_grammar.specs.Ahead.{Ahead, Tables, BeginsWhole, is_behind, is_followed, every, exclude, is_part, starts}
+use Rattle.mc_grammar.specs.Ahead.{Ahead, Tables, BeginsWhole, is_behind, is_followed, every}
+use Rattle.mc_grammar.specs.Ahead.{exclude, is_part, starts}
 use Rattle.mc_grammar.specs.Apart.{step, are_distinct, all_distinct, ToldApart}
 use Rattle.mc_grammar.proofs.Forests.{size, beside, size-beside, tokens_of-beside, Fits-beside}
-use Rattle.mc_grammar.proofs.Ahead.{both, either, every_one, begins_part, excludes, begins_as, followed}
+use Rattle.mc_grammar.proofs.Ahead.{both, either, every_one, begins_part, excludes, begins_as}
+use Rattle.mc_grammar.proofs.Ahead.{followed}
 
 branch : (c a b : Bool) → IsTrue (elim c [ true ↦ a | false ↦ b ])
     → (IsTrue c × IsTrue a) ⊎ IsTrue b

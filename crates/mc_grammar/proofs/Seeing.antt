@@ -1,5 +1,6 @@
 -- What looking at the next tokens tells of the classes that may be met.
-use Rattle.std.proofs.Common.{◌≡◌, ◌⊎◌, inl, inr, ℕ, Bool, ◌||◌, true, false, not, List, [], ◌∷◌, refl, IsTrue, ◌&&◌, subst, Option, Some, None}
+use Rattle.std.proofs.Common.{◌≡◌, ◌⊎◌, inl, inr, ℕ, Bool, ◌||◌, true, false, not, List, [], ◌∷◌}
+use Rattle.std.proofs.Common.{refl, IsTrue, ◌&&◌, subst, Option, Some, None}
 use Rattle.std.specs.List.{list_any}
 use Rattle.mc_grammar.specs.Ahead.{Ahead, Meets, Begins, StandsBehind, MeetsWhole, is_within_next}
 use Rattle.mc_grammar.specs.Language.{Language, IsSound}

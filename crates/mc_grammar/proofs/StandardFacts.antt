@@ -1,6 +1,7 @@
 -- A grammar of sums, `sum := atom {+ atom}` and `atom := digit | ( sum )`, and each way through the
 -- functions that would read it.
-use Rattle.std.proofs.Common.{inl, ℕ, suc, Bool, true, false, not, List, [], ◌∷◌, ◌++◌, refl, IsTrue, Some, None, nat_eq, arith}
+use Rattle.std.proofs.Common.{inl, ℕ, suc, Bool, true, false, not, List, [], ◌∷◌, ◌++◌, refl}
+use Rattle.std.proofs.Common.{IsTrue, Some, None, nat_eq, arith}
 use Rattle.std.proofs.lemmas.Bool.Decides.{nat_tests}
 use Rattle.mc_grammar.specs.Grammar.{Grammar, Symbol, one, rule}
 use Rattle.mc_grammar.specs.Reading.{Forest, bare, leaf, node, IsReading}
@@ -15,7 +16,8 @@ use Rattle.mc_grammar.proofs.Rooms.{free_completed}
 use Rattle.mc_grammar.proofs.RoomTables.{room_sound}
 use Rattle.mc_grammar.proofs.Seeing.{sees_next}
 use Rattle.mc_grammar.proofs.Inside.{enter}
-use Rattle.mc_grammar.proofs.Ways.{choose, take_token, read_rule, finish, one_link, last_link, no_place, rule_fails, no_room}
+use Rattle.mc_grammar.proofs.Ways.{choose, take_token, read_rule, finish, one_link, last_link}
+use Rattle.mc_grammar.proofs.Ways.{no_place, rule_fails, no_room}
 
 data Token : Type 0 where
   digit plus opening closing : Token
@@ -167,7 +169,8 @@ parentheses_read n v w ns o =
     (choose toy sound (sees_next toy sound (opening ∷ v))) refl) o refl refl (omega arith)) refl)
 
 -- atom: neither.
-atom_missing : (n : ℕ) (v : List Token) → Fails toy behind_atom (at (suc n) atom) (plus ∷ v) (plus ∷ v)
+atom_missing : (n : ℕ) (v : List Token)
+    → Fails toy behind_atom (at (suc n) atom) (plus ∷ v) (plus ∷ v)
 atom_missing n v =
     no_place toy sound (free_completions completions) complete (enter toy _ _ _)
     (sees_next toy sound (plus ∷ v)) refl (omega arith)

@@ -1,6 +1,7 @@
 -- What a descent says at the top, of the grammar without room: where no reading goes on, and where
 -- none goes on within the limit.
-use Rattle.std.proofs.Common.{◌≡◌, inl, ℕ, suc, Bool, List, [], ◌∷◌, ◌++◌, refl, sym, ap, ◌∙◌, append_assoc, append-nil, map, subst, arith, None}
+use Rattle.std.proofs.Common.{◌≡◌, inl, ℕ, suc, Bool, List, [], ◌∷◌, ◌++◌, refl, sym, ap, ◌∙◌}
+use Rattle.std.proofs.Common.{append_assoc, append-nil, map, subst, arith, None}
 use Rattle.std.proofs.lemmas.List.{map-append}
 use Rattle.mc_grammar.specs.Grammar.{Grammar, rule}
 use Rattle.mc_grammar.specs.Reading.{Forest, bare, leaf, node, tokens_of, IsReading}
@@ -9,9 +10,11 @@ use Rattle.mc_grammar.specs.Language.{Reads}
 use Rattle.mc_grammar.specs.Places.{Done, Fails, IsTooDeep}
 use Rattle.mc_grammar.specs.Nest.{Marked, bound, free, unmarked, Nested, nested, AreWithin}
 use Rattle.mc_grammar.specs.Room.{room_language, whole_rule}
-use Rattle.mc_grammar.specs.Goes.{GoesOn, GoesOnWithin}
+use Rattle.mc_grammar.specs.Goes.{GoesOn, GoesOnWithin, Whole}
 use Rattle.mc_grammar.proofs.Paths.{stuck_stops, left_over, allows_end}
-use Rattle.mc_grammar.proofs.Rooms.{unmarked_forest, tokens_of-unmarked, fits_unmarked, reads_within, Given, within_reads, free_within, values_of-unmarked}
+use Rattle.mc_grammar.proofs.Rooms.{unmarked_forest, tokens_of-unmarked, fits_unmarked}
+use Rattle.mc_grammar.proofs.Rooms.{reads_within, Given, within_reads, free_within}
+use Rattle.mc_grammar.proofs.Rooms.{values_of-unmarked}
 use Rattle.mc_grammar.proofs.RoomTables.{room_sound}
 
 unmarked_bound : {T : Type 0} (u : List T) (w : List (Marked T))
@@ -150,6 +153,14 @@ module _ {K R A T V : Type 0} (g : Grammar K R A T) (t : Tables K R) (deeper : A
         };
       })))
 
+  -- At the end it is all the tokens that go on.
+  pub fails_whole : (limit : ℕ) (r : R) (tokens : List T)
+      → Fails (room_language g t deeper token_value node_value) (None ∷ [])
+      (whole_rule limit r) tokens [] → GoesOnWithin g deeper limit r tokens
+  fails_whole limit r tokens o =
+      subst (λ (z : List T). GoesOnWithin g deeper limit r z)
+      (sym (o.split ∙ append-nil o.front)) (fails_within limit r tokens [] o)
+
   -- Where a rule is read and tokens are left, it is the same.
   pub done_within : (after : _) (limit look : ℕ) (r : R) (tokens rest : List T) (value : V)
       → (o : Done (room_language g t deeper token_value node_value) after look
@@ -214,12 +225,6 @@ module _ {K R A T V : Type 0} (g : Grammar K R A T) (t : Tables K R) (deeper : A
       (room_reads_bound limit r (o.front ++ (o.token ∷ [])) p))
 
   -- Where a rule has read all the tokens, they have a reading within the limit, with its value.
-  pub record Whole (limit : ℕ) (r : R) (view : Forest A T → List V) (tokens : List T) (value : V) : Type 0 where
-    pub reading : Forest A T
-    pub reads : IsReading g r tokens reading
-    pub within : AreWithin limit (nested deeper 0 [] reading) (map (λ x. bound x) tokens)
-    pub means : view reading ≡ value ∷ []
-
   pub whole_reading : (after : _) (limit look : ℕ) (r : R) (view : Forest A T → List V)
       (tokens : List T) (value : V)
       → view bare ≡ []
@@ -227,7 +232,7 @@ module _ {K R A T V : Type 0} (g : Grammar K R A T) (t : Tables K R) (deeper : A
       → ((a : A) (x f : Forest A T)
       → view (node a x f) ≡ node_value a (tokens_of x) (view x) ∷ view f)
       → Done (room_language g t deeper token_value node_value) after look
-      (whole_rule limit r) tokens [] value → Whole limit r view tokens value
+      (whole_rule limit r) tokens [] value → Whole g deeper limit r view tokens value
   whole_reading after limit look r view tokens value b s h o =
       let e : o.front ≡ tokens = sym (o.split ∙ append-nil o.front) in
       record {

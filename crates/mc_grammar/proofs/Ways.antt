@@ -1,9 +1,11 @@
 -- The steps of a way through a function that reads a rule, in short.
-use Rattle.std.proofs.Common.{◌≡◌, ℕ, ◌+◌, ◌-◌, ◌≤◌, max, Bool, List, [], ◌∷◌, ◌++◌, length, IsTrue, Option, arith}
+use Rattle.std.proofs.Common.{◌≡◌, ℕ, ◌+◌, ◌-◌, ◌≤◌, max, Bool, List, [], ◌∷◌, ◌++◌, length, IsTrue}
+use Rattle.std.proofs.Common.{Option, arith}
 use Rattle.mc_grammar.specs.Grammar.{rule}
 use Rattle.mc_grammar.specs.Ahead.{Ahead, every}
 use Rattle.mc_grammar.specs.Language.{Language, IsSound}
-use Rattle.mc_grammar.specs.Places.{Place, behind_next, before, entries, all_pass, all_out, kept, is_next, is_barred, Sees, Inside, Done, Fails, IsTooDeep}
+use Rattle.mc_grammar.specs.Places.{Place, behind_next, before, entries, all_pass, all_out, kept}
+use Rattle.mc_grammar.specs.Places.{is_next, is_barred, Sees, Inside, Done, Fails, IsTooDeep}
 use Rattle.mc_grammar.specs.Chains.{Chain}
 use Rattle.mc_grammar.specs.Completions.{Completions, Complete}
 use Rattle.mc_grammar.proofs.Inside.{enter, narrow, widened, token, read, leave}
@@ -98,6 +100,19 @@ module _ {K R A S T V : Type 0} (l : Language K R A S T V) (d : IsSound l) where
       → Chain l after n more value links tokens front rest → IsTooDeep l after more rest v → n ≤ 1
       → IsTooDeep l after more tokens v
   link_too_deep p o lt = chain_too_deep l d _ _ _ _ _ _ _ _ _ p o (omega (arith, lt))
+
+  -- The same, where the tokens that the link took are looked at too.
+  pub link_fails_far : {X : Type 0} {after : Ahead K} {n : ℕ} {more : R} {value : List X → V}
+      {links : List X} {tokens front rest v : List S}
+      → Chain l after n more value links tokens front rest → (o : Fails l after more rest v)
+      → n ≤ length o.front + 1 → Fails l after more tokens v
+  link_fails_far p o lt = chain_fails l _ _ _ _ _ _ _ _ _ p o lt
+
+  pub link_too_deep_far : {X : Type 0} {after : Ahead K} {n : ℕ} {more : R} {value : List X → V}
+      {links : List X} {tokens front rest v : List S}
+      → Chain l after n more value links tokens front rest → (o : IsTooDeep l after more rest v)
+      → n ≤ length o.front + 1 → IsTooDeep l after more tokens v
+  link_too_deep_far p o lt = chain_too_deep l d _ _ _ _ _ _ _ _ _ p o lt
 
   module _ (c : Completions K R T) (f : Complete l c) where
     -- No place wants the next token.

@@ -1,5 +1,6 @@
 -- What may stand next: FIRST and FOLLOW, Aho, Lam, Sethi and Ullman, Compilers, 4.4.
-use Rattle.std.specs.Prelude.{◌⊎◌, ◌&&◌, ◌||◌, Bool, true, false, not, List, [], ◌∷◌, ◌++◌}
+use Rattle.std.specs.Prelude.{◌⊎◌, ◌&&◌, ◌||◌, Bool, true, false, not, List, []}
+use Rattle.std.specs.Prelude.{◌∷◌, ◌++◌}
 use Rattle.std.specs.Prelude.{Option, Some, None, IsTrue}
 use Rattle.std.specs.List.{list_any}
 use Rattle.mc_grammar.specs.Grammar.{Grammar, Symbol, one, rule}
@@ -102,7 +103,8 @@ module _ {K R A T : Type 0} (g : Grammar K R A T) (t : Tables K R) where
   MeetsWhole None [] = Unit
   MeetsWhole None (token ∷ tokens) = ⊥
   MeetsWhole (Some k) [] = ⊥
-  MeetsWhole (Some k) (token ∷ tokens) = IsTrue (g.is_of k token) × StandsBehind (t.behind k) tokens
+  MeetsWhole (Some k) (token ∷ tokens) =
+      IsTrue (g.is_of k token) × StandsBehind (t.behind k) tokens
 
   -- The tokens begin as the list allows, with what stands behind the class.
   abbrev pub BeginsWhole : Ahead K → List T → Type 0
@@ -119,7 +121,8 @@ module _ {K R A T : Type 0} (g : Grammar K R A T) (t : Tables K R) where
   -- The tables say no less than holds of the grammar.
   pub record Covers : Type 0 where
     pub apart_classes : (k l : K) (token : T) (tokens : List T) → IsTrue (t.are_apart k l)
-        → MeetsWhole (Some k) (token ∷ tokens) → MeetsWhole (Some l) (token ∷ tokens) → ⊥
+        → MeetsWhole (Some k) (token ∷ tokens)
+        → MeetsWhole (Some l) (token ∷ tokens) → ⊥
     pub inner_classes : (k l : K) (token : T) (tokens : List T) → IsTrue (t.is_within k l)
         → MeetsWhole (Some k) (token ∷ tokens) → MeetsWhole (Some l) (token ∷ tokens)
     pub each_alternative : (r : R) → IsTrue (every (λ a. is_covered r a) (g.alternatives r))

@@ -1,7 +1,8 @@
 -- Grammars whose alternatives are told apart: no two of one rule read one whole list of tokens. The
 -- comparison goes in lock step; where FIRST and FOLLOW exclude each other it ends, as in Aho, Lam,
 -- Sethi and Ullman, Compilers, 4.4.
-use Rattle.std.specs.Prelude.{◌≡◌, ◌&&◌, ◌||◌, ℕ, zero, suc, Bool, true, false, IsTrue}
+use Rattle.std.specs.Prelude.{◌≡◌, ◌&&◌, ◌||◌, ℕ, zero, suc, Bool, true, false}
+use Rattle.std.specs.Prelude.{IsTrue}
 use Rattle.std.specs.Prelude.{List, [], ◌∷◌, ◌++◌}
 use Rattle.mc_grammar.specs.Grammar.{Grammar, Symbol, one, rule}
 use Rattle.mc_grammar.specs.Ahead.{Ahead, Tables, every, exclude, starts, is_followed, Covers}
@@ -26,7 +27,8 @@ module _ {K R A T : Type 0} (g : Grammar K R A T) (t : Tables K R) where
   step apart ss after zz after' = false
 
   -- The two lists of symbols, each with what may stand after it, read no tokens in common.
-  abbrev pub are_distinct : ℕ → List (Symbol K R) → Ahead K → List (Symbol K R) → Ahead K → Bool
+  abbrev pub are_distinct : ℕ → List (Symbol K R) → Ahead K → List (Symbol K R) → Ahead K
+      → Bool
   are_distinct zero ss after zz after' = false
   are_distinct (suc depth) ss after zz after' =
       (exclude t (starts t ss after) (starts t zz after')

@@ -1,7 +1,8 @@
 -- What a descent by looking ahead may say of the tokens that it took: Aho, Lam, Sethi and Ullman,
 -- Compilers, 4.4. A list of symbols is what is still to be read, as on the stack of a predictive
 -- parser.
-use Rattle.std.specs.Prelude.{◌≡◌, ◌⊎◌, ℕ, zero, suc, List, [], ◌∷◌, ◌++◌, map}
+use Rattle.std.specs.Prelude.{◌≡◌, ◌⊎◌, ℕ, zero, suc, List, [], ◌∷◌, ◌++◌}
+use Rattle.std.specs.Prelude.{map}
 use Rattle.mc_grammar.specs.Grammar.{Symbol}
 use Rattle.mc_grammar.specs.Ahead.{Ahead, BeginsWhole}
 use Rattle.mc_grammar.specs.Language.{Language, Reads}
@@ -28,8 +29,9 @@ module _ {K R A S T V : Type 0} (l : Language K R A S T V) where
   -- the rest were looked at: who reads on from there reads by the latter, and the other way round.
   pub record Leads (after : Ahead K) (look : ℕ) (symbols left : List (Symbol K R))
       (front rest : List S) : Type 0 where
-    pub takes : (later : List (Symbol K R)) (w : List T) → Allows after later → Alike look w rest
-        → Reads l (symbols ++ later) (map l.free front ++ w) → Reads l (left ++ later) w
+    pub takes : (later : List (Symbol K R)) (w : List T) → Allows after later
+        → Alike look w rest → Reads l (symbols ++ later) (map l.free front ++ w)
+        → Reads l (left ++ later) w
     pub gives : (later : List (Symbol K R)) (w : List T) → Reads l (left ++ later) w
         → Reads l (symbols ++ later) (map l.bound front ++ w)
 

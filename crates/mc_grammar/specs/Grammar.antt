@@ -1,4 +1,5 @@
--- Context-free grammars as data: Hopcroft, Motwani and Ullman, Introduction to Automata Theory, 5.1.
+-- Context-free grammars as data: Hopcroft, Motwani and Ullman, Introduction to Automata Theory,
+-- 5.1.
 use Rattle.std.specs.Prelude.{Bool, List}
 
 -- What an alternative has at a place: one token of a class, or what a rule reads.

@@ -10,3 +10,4 @@ pub mod Chains
 pub mod Nest
 pub mod Room
 pub mod Goes
+pub mod Answers

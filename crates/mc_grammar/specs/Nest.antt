@@ -1,6 +1,7 @@
 -- How deep the tokens of a forest stand, where some symbols of an alternative stand one level
 -- deeper than the alternative.
-use Rattle.std.specs.Prelude.{◌≡◌, ℕ, suc, ◌≤◌, Bool, true, false, List, [], ◌∷◌, ◌++◌}
+use Rattle.std.specs.Prelude.{◌≡◌, ℕ, suc, ◌≤◌, Bool, true, false, List, []}
+use Rattle.std.specs.Prelude.{◌∷◌, ◌++◌}
 use Rattle.mc_grammar.specs.Reading.{Forest, bare, leaf, node}
 
 -- A token that may not stand deeper than the limit, and one that may.
@@ -34,7 +35,8 @@ level_at true level = suc level
 
 -- The tokens of a forest and their levels, where the marks say which of its trees stand one level
 -- deeper.
-abbrev pub nested : {A T : Type 0} → (A → List Bool) → ℕ → List Bool → Forest A T → List (Nested T)
+abbrev pub nested : {A T : Type 0} → (A → List Bool) → ℕ → List Bool → Forest A T
+    → List (Nested T)
 nested deeper level marks bare = []
 nested deeper level marks (leaf token others) =
     record { token = token; level = level_at (first_mark marks) level }
@@ -50,4 +52,5 @@ AreWithin limit [] (x ∷ marked) = ⊥
 AreWithin limit (n ∷ ns) [] = ⊥
 AreWithin limit (n ∷ ns) (bound token ∷ marked) =
     (n.token ≡ token) × (n.level ≤ limit) × AreWithin limit ns marked
-AreWithin limit (n ∷ ns) (free token ∷ marked) = (n.token ≡ token) × AreWithin limit ns marked
+AreWithin limit (n ∷ ns) (free token ∷ marked) =
+    (n.token ≡ token) × AreWithin limit ns marked

@@ -56,7 +56,10 @@ module _ {K R A S T V : Type 0} (l : Language K R A S T V) where
   abbrev pub kept : (Option K → Bool) → Ahead K → List (Place K R A) → List (Place K R A)
   kept may after [] = []
   kept may after (p ∷ ps) =
-      elim (is_out may after p.left) [ true ↦ kept may after ps | false ↦ p ∷ kept may after ps ]
+      elim (is_out may after p.left) [
+        | true ↦ kept may after ps
+        | false ↦ p ∷ kept may after ps
+      ]
 
   -- The next symbol is a class of the marked token.
   abbrev pub is_next : T → List (Symbol K R) → Bool

@@ -21,7 +21,8 @@ IsOneOf a (b ∷ bs) = (a ≡ b) ⊎ IsOneOf a bs
 
 -- The forest has one tree for each of the symbols: for a class a token of it, for a rule a node of
 -- one of its alternatives.
-abbrev pub Fits : {K R A T : Type 0} → Grammar K R A T → List (Symbol K R) → Forest A T → Type 0
+abbrev pub Fits : {K R A T : Type 0} → Grammar K R A T → List (Symbol K R) → Forest A T
+    → Type 0
 Fits g [] bare = Unit
 Fits g (one class ∷ symbols) (leaf token others) =
     IsTrue (g.is_of class token) × Fits g symbols others

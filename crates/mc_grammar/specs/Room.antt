@@ -73,8 +73,8 @@ module _ {K R A T : Type 0} (g : Grammar K R A T) (t : Tables K R) (deeper : A �
   }
 
 -- The language with room, where tokens and nodes have these values.
-abbrev pub room_language : {K R A T V : Type 0} → Grammar K R A T → Tables K R → (A → List Bool)
-    → (T → V) → (A → List T → List V → V)
+abbrev pub room_language : {K R A T V : Type 0} → Grammar K R A T → Tables K R
+    → (A → List Bool) → (T → V) → (A → List T → List V → V)
     → Language (Admitted K) (Roomed R) (Roomed A) T (Marked T) V
 room_language g t deeper token_value node_value = record {
   grammar = room_grammar g t deeper;

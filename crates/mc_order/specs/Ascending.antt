@@ -1,5 +1,6 @@
 -- Ascending lists: `ascending` makes them, and their members decide them.
-use Rattle.std.proofs.Common.{◌≡◌, ◌⊎◌, ◌↔◌, ℕ, zero, suc, ◌<◌, List, [], ◌∷◌, length, get_or, refl}
+use Rattle.std.proofs.Common.{◌≡◌, ◌⊎◌, ◌↔◌, ℕ, zero, suc, ◌<◌, List, []}
+use Rattle.std.proofs.Common.{◌∷◌, length, get_or, refl}
 use Rattle.std.proofs.Common.{sym, ap, ◌∙◌, subst, inl, inr, ⊎_elim, arith}
 use Rattle.std.specs.List.{Contains}
 use Rattle.std.specs.Cmp.Lexicographic.{slice_cmp}
@@ -18,7 +19,8 @@ abbrev pub Among : {X : Type 0} → X → List X → Type 0
 Among x [] = ⊥
 Among x (y ∷ ys) = (x ≡ y) ⊎ Among x ys
 
-Among-at : {X : Type 0} (xs : List X) (x : X) (k : ℕ) → k < length xs → get_or xs k x ≡ x →
+Among-at : {X : Type 0} (xs : List X) (x : X) (k : ℕ) → k < length xs
+    → get_or xs k x ≡ x →
     Among x xs
 Among-at [] x k below e = absurd (omega arith)
 Among-at (y ∷ ys) x zero below e = inl (sym e)
@@ -42,7 +44,8 @@ abbrev pub Rises : List (List ℕ) → Type 0
 Rises [] = Unit {0}
 Rises (x ∷ xs) = ((y : List ℕ) → Among y xs → Precedes x y) × Rises xs
 
-at_Among : {X : Type 0} (xs : List X) (d : X) (k : ℕ) → k < length xs → Among (get_or xs k d) xs
+at_Among : {X : Type 0} (xs : List X) (d : X) (k : ℕ) → k < length xs
+    → Among (get_or xs k d) xs
 at_Among [] d k below = absurd (omega arith)
 at_Among (x ∷ xs) d zero below = inl refl
 at_Among (x ∷ xs) d (suc k) below = inr (at_Among xs d k (omega arith))
@@ -51,7 +54,8 @@ rises_at : (xs : List (List ℕ)) → Rises xs → (i j : ℕ) → i < j → j <
     Precedes (get_or xs i []) (get_or xs j [])
 rises_at [] h i j less below = absurd (omega arith)
 rises_at (x ∷ xs) h zero zero less below = absurd (omega arith)
-rises_at (x ∷ xs) h zero (suc j) less below = h.0 (get_or xs j []) (at_Among xs [] j (omega arith))
+rises_at (x ∷ xs) h zero (suc j) less below =
+    h.0 (get_or xs j []) (at_Among xs [] j (omega arith))
 rises_at (x ∷ xs) h (suc i) zero less below = absurd (omega arith)
 rises_at (x ∷ xs) h (suc i) (suc j) less below = rises_at xs h.1 i j (omega arith) (omega arith)
 
@@ -73,14 +77,16 @@ rises_from_IsAscending (x ∷ xs) h = (
 )
 
 -- Without padding the order is the lexicographic one of std.
-pub unpadded : (space : ℕ) (a b : List ℕ) → list_order NoPad space a b ≡ slice_cmp nat_cmp a b
+pub unpadded : (space : ℕ) (a b : List ℕ)
+    → list_order NoPad space a b ≡ slice_cmp nat_cmp a b
 unfolding list_order order_to_end
 unpadded space [] [] = refl
 unpadded space [] (y ∷ ys) = refl
 unpadded space (x ∷ xs) [] = refl
 unpadded space (x ∷ xs) (y ∷ ys) = ap (ordering_then (nat_cmp x y)) (unpadded space xs ys)
 
-same_rest : (x y : ℕ) (xs ys : List ℕ) (o r : Ordering) → MatchOrdering o (x < y) (x ≡ y) (y < x) →
+same_rest : (x y : ℕ) (xs ys : List ℕ) (o r : Ordering)
+    → MatchOrdering o (x < y) (x ≡ y) (y < x) →
     ordering_then o r ≡ Equal → (r ≡ Equal → xs ≡ ys) → x ∷ xs ≡ y ∷ ys
 same_rest x y xs ys Less r h e rest = absurd cc
 same_rest x y xs ys Equal r h e rest = let same = rest e in cc
@@ -95,7 +101,8 @@ tied_same (x ∷ xs) (y ∷ ys) e =
     (tied_same xs ys)
 
 -- Lists that are equal without padding are one list.
-pub same_from_equal : (space : ℕ) (a b : List ℕ) → list_order NoPad space a b ≡ Equal → a ≡ b
+pub same_from_equal : (space : ℕ) (a b : List ℕ) → list_order NoPad space a b ≡ Equal
+    → a ≡ b
 same_from_equal space a b e = tied_same a b (sym (unpadded space a b) ∙ e)
 
 precedes_trans : (a b c : List ℕ) → Precedes a b → Precedes b c → Precedes a c
@@ -124,7 +131,8 @@ insert_cases x y ys P before same behind = go (list_order NoPad 0 x y) refl
     go Equal e = same (same_from_equal 0 x y e)
     go Greater e = behind (precedes_back x y e)
 
-among_inserted : (x : List ℕ) (ys : List (List ℕ)) (z : List ℕ) → Among z (insert_list x ys) →
+among_inserted : (x : List ℕ) (ys : List (List ℕ)) (z : List ℕ)
+    → Among z (insert_list x ys) →
     (z ≡ x) ⊎ Among z ys
 unfolding insert_list
 among_inserted x [] z (inl e) = inl e
@@ -135,7 +143,8 @@ among_inserted x (y ∷ ys) z h =
     (λ behind h. ⊎_elim (λ e. inr (inl e)) (λ a. ⊎_elim (λ e. inl e) (λ b. inr (inr b))
     (among_inserted x ys z a)) h) h
 
-inserted_among : (x : List ℕ) (ys : List (List ℕ)) (z : List ℕ) → (z ≡ x) ⊎ Among z ys →
+inserted_among : (x : List ℕ) (ys : List (List ℕ)) (z : List ℕ)
+    → (z ≡ x) ⊎ Among z ys →
     Among z (insert_list x ys)
 unfolding insert_list
 inserted_among x [] z h = h
@@ -168,7 +177,8 @@ unfolding ascending
 rises_ascending [] = tt
 rises_ascending (x ∷ xs) = rises_inserted x (ascending xs) (rises_ascending xs)
 
-pub Among_ascending : (xs : List (List ℕ)) (z : List ℕ) → Among z (ascending xs) ↔ Among z xs
+pub Among_ascending : (xs : List (List ℕ)) (z : List ℕ)
+    → Among z (ascending xs) ↔ Among z xs
 unfolding ascending
 Among_ascending [] z = (λ h. h, λ h. h)
 Among_ascending (x ∷ xs) z = (
@@ -179,21 +189,24 @@ Among_ascending (x ∷ xs) z = (
 )
 
 -- Of two rising lists with the same members the first ones are the same.
-heads_same : (x y : List ℕ) (xs ys : List (List ℕ)) → Rises (x ∷ xs) → Rises (y ∷ ys) →
+heads_same : (x y : List ℕ) (xs ys : List (List ℕ)) → Rises (x ∷ xs)
+    → Rises (y ∷ ys) →
     Among x (y ∷ ys) → Among y (x ∷ xs) → x ≡ y
 heads_same x y xs ys rx ry (inl e) h = e
 heads_same x y xs ys rx ry (inr a) (inl e) = sym e
 heads_same x y xs ys rx ry (inr a) (inr b) =
     absurd (precedes_itself x (precedes_trans x y x (rx.0 y b) (ry.0 x a)))
 
-not_head : (x y z : List ℕ) (xs ys : List (List ℕ)) → Rises (x ∷ xs) → x ≡ y → Among z xs →
+not_head : (x y z : List ℕ) (xs ys : List (List ℕ)) → Rises (x ∷ xs) → x ≡ y
+    → Among z xs →
     Among z (y ∷ ys) → Among z ys
 not_head x y z xs ys rx e a (inl is) =
     absurd (precedes_itself x (subst (Precedes x) (is ∙ sym e) (rx.0 z a)))
 not_head x y z xs ys rx e a (inr b) = b
 
 rises_unique : (xs ys : List (List ℕ)) → Rises xs → Rises ys →
-    ((z : List ℕ) → Among z xs → Among z ys) → ((z : List ℕ) → Among z ys → Among z xs) → xs ≡ ys
+    ((z : List ℕ) → Among z xs → Among z ys)
+    → ((z : List ℕ) → Among z ys → Among z xs) → xs ≡ ys
 rises_unique [] [] rx ry there back = refl
 rises_unique [] (y ∷ ys) rx ry there back = absurd (back y (inl refl))
 rises_unique (x ∷ xs) [] rx ry there back = absurd (there x (inl refl))

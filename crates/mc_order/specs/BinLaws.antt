@@ -1,6 +1,8 @@
 -- The binary collations keep the laws.
-use Rattle.std.proofs.Common.{◌≡◌, ℕ, ◌+◌, ◌-◌, ◌^◌, ◌<◌, ◌≤◌, Bool, true, false, cond, List, []}
-use Rattle.std.proofs.Common.{◌∷◌, Some, map, length, take, drop, append-nil, refl, sym, ap, ◌∙◌}
+use Rattle.std.proofs.Common.{◌≡◌, ℕ, ◌+◌, ◌-◌, ◌^◌, ◌<◌, ◌≤◌, Bool}
+use Rattle.std.proofs.Common.{true, false, cond, List, []}
+use Rattle.std.proofs.Common.{◌∷◌, Some, map, length, take, drop, append-nil, refl, sym, ap}
+use Rattle.std.proofs.Common.{◌∙◌}
 use Rattle.std.proofs.Common.{inl, arith}
 use Rattle.std.specs.List.{All}
 use Rattle.std.proofs.lemmas.List.Elements.{All-nil, All-cons}
@@ -8,7 +10,7 @@ use Rattle.mc_charset.specs.declared.charset.Charset.{Charset}
 use Rattle.mc_charset.specs.declared.charset.Charset.TheVariants.{Latin1, Ascii, Utf8mb3, Utf8mb4}
 use Rattle.mc_charset.specs.declared.charset.Charset.TheVariants.{Ucs2, Utf16, Utf32, Binary}
 use Rattle.mc_charset.specs.Chars.{spell, code_points}
-use Rattle.mc_charset.proofs.CodePoints.{spelled_code_point}
+use Rattle.mc_charset.specs.CodePoints.{spelled_code_point}
 use Rattle.mc_order.specs.declared.pad.Pad.{Pad}
 use Rattle.mc_order.specs.declared.pad.Pad.TheVariants.{PadSpace, NoPad}
 use Rattle.mc_order.specs.Meaning.{IsCharOf, AreCharsOf}
@@ -53,7 +55,8 @@ bin_settings set pad = record {
   space_weight = bin_space_weight set pad;
 }
 
-number_fits : (set : Charset) (one : Bool) (code : ℕ) (text : List ℕ) → is_one_byte set ≡ one →
+number_fits : (set : Charset) (one : Bool) (code : ℕ) (text : List ℕ)
+    → is_one_byte set ≡ one →
     spell set code ≡ Some text →
     (bin_number set code < 256 ^ cond one 1 3) × (bin_number set code < code_points)
 unfolding bin_number

@@ -1,5 +1,6 @@
 -- Characters of a set, one by one and as lists.
-use Rattle.std.proofs.Common.{◌≡◌, ℕ, List, [], ◌∷◌, ◌++◌, Option, Some, None, refl}
+use Rattle.std.proofs.Common.{◌≡◌, ℕ, List, [], ◌∷◌, ◌++◌, Option, Some, None}
+use Rattle.std.proofs.Common.{refl}
 use Rattle.std.specs.Prelude.{option_and_then}
 use Rattle.mc_charset.specs.declared.charset.Charset.{Charset}
 use Rattle.mc_charset.specs.Chars.{spell, spell_all}
@@ -18,7 +19,8 @@ pub AreCharsOf-parts : (set : Charset) (code : ℕ) (codes : List ℕ) →
 unfolding spell_all
 AreCharsOf-parts set code codes h = both_there (spell set code) (spell_all set codes) h.0 h.1
 
-both_join : (front rest : Option (List ℕ)) (f r : List ℕ) → front ≡ Some f → rest ≡ Some r →
+both_join : (front rest : Option (List ℕ)) (f r : List ℕ) → front ≡ Some f
+    → rest ≡ Some r →
     option_and_then (λ x. option_and_then (λ y. Some (x ++ y)) rest) front ≡ Some (f ++ r)
 both_join front rest f r e d = rw (e, d) refl
 
@@ -32,7 +34,8 @@ pub AreCharsOf-none : (set : Charset) → AreCharsOf set []
 unfolding spell_all
 AreCharsOf-none set = ([], refl)
 
-pub AreCharsOf-one : (set : Charset) (code : ℕ) → IsCharOf set code → AreCharsOf set (code ∷ [])
+pub AreCharsOf-one : (set : Charset) (code : ℕ) → IsCharOf set code
+    → AreCharsOf set (code ∷ [])
 AreCharsOf-one set code c = AreCharsOf-cons set code [] c (AreCharsOf-none set)
 
 -- Characters of the set, joined and split.
@@ -43,7 +46,8 @@ AreCharsOf-join set (c ∷ cs) more h k =
     let parts = AreCharsOf-parts set c cs h in
     AreCharsOf-cons set c (cs ++ more) parts.0 (AreCharsOf-join set cs more parts.1 k)
 
-pub AreCharsOf-split : (set : Charset) (codes more : List ℕ) → AreCharsOf set (codes ++ more) →
+pub AreCharsOf-split : (set : Charset) (codes more : List ℕ)
+    → AreCharsOf set (codes ++ more) →
     AreCharsOf set codes × AreCharsOf set more
 AreCharsOf-split set [] more h = (AreCharsOf-none set, h)
 AreCharsOf-split set (c ∷ cs) more h =

@@ -1,11 +1,13 @@
 -- The search over the code points decides whether each character has a weight of its own.
-use Rattle.std.proofs.Common.{◌≡◌, ◌≢◌, ◌↔◌, ℕ, zero, suc, ◌<◌, Bool, true, false, cond, ◌&&◌, ◌||◌}
-use Rattle.std.proofs.Common.{not, List, [], ◌∷◌, Option, Some, None, refl, sym, ap, ◌∙◌, subst}
+use Rattle.std.proofs.Common.{◌≡◌, ◌≢◌, ◌↔◌, ℕ, zero, suc, ◌<◌, Bool, true}
+use Rattle.std.proofs.Common.{false, cond, ◌&&◌, ◌||◌}
+use Rattle.std.proofs.Common.{not, List, [], ◌∷◌, Option, Some, None, refl, sym, ap}
+use Rattle.std.proofs.Common.{◌∙◌, subst}
 use Rattle.std.proofs.Common.{⊎_elim, arith}
 use Rattle.std.specs.Option.{is_some}
 use Rattle.std.proofs.lemmas.Bool.{cases_lt}
 use Rattle.mc_charset.specs.Chars.{spell, code_points}
-use Rattle.mc_charset.proofs.CodePoints.{spelled_code_point}
+use Rattle.mc_charset.specs.CodePoints.{spelled_code_point}
 use Rattle.mc_order.specs.Meaning.{Meaning}
 use Rattle.mc_order.specs.Laws.{HasWeightPerChar, KeepsFloor}
 use Rattle.mc_order.specs.Tails.{has_members}
@@ -19,7 +21,8 @@ join : (a b : Bool) → a ≡ true → b ≡ true → (a && b) ≡ true
 join true b ea eb = eb
 join false b ea eb = absurd cc
 
-each_passes : (n : ℕ) (test : ℕ → Bool) → each_below n test ≡ true → (i : ℕ) → i < n → test i ≡ true
+each_passes : (n : ℕ) (test : ℕ → Bool) → each_below n test ≡ true → (i : ℕ) → i < n
+    → test i ≡ true
 unfolding each_below
 each_passes zero test e i below = absurd (omega arith)
 each_passes (suc n) test e i below =

@@ -1,5 +1,6 @@
 -- What every collation keeps, so that indexes, ranges and patterns rest on these laws alone.
-use Rattle.std.specs.Prelude.{◌≡◌, ◌⊎◌, ◌↔◌, ◌≢◌, ℕ, ◌-◌, ◌^◌, ◌<◌, ◌≤◌, List, [], ◌∷◌, ◌++◌}
+use Rattle.std.specs.Prelude.{◌≡◌, ◌⊎◌, ◌↔◌, ◌≢◌, ℕ, ◌-◌, ◌^◌}
+use Rattle.std.specs.Prelude.{◌<◌, ◌≤◌, List, [], ◌∷◌, ◌++◌}
 use Rattle.std.specs.Prelude.{length, take, slice_index_or}
 use Rattle.std.specs.List.{All, Contains}
 use Rattle.std.specs.declared.cmp.Ordering.TheVariants.{Less}
@@ -35,7 +36,8 @@ IsWeight m weight = (1 ≤ weight) × (weight ≤ greatest_weight) × (m.added �
 -- Each list of each weight level has weights alone.
 abbrev pub KeepsBounds : Meaning → Type 0
 KeepsBounds m =
-    (level : ℕ) (codes : List ℕ) → 1 ≤ level → level ≤ m.levels → AreCharsOf m.charset codes →
+    (level : ℕ) (codes : List ℕ) → 1 ≤ level → level ≤ m.levels
+    → AreCharsOf m.charset codes →
     All (IsWeight m) (m.level_list level codes)
 
 -- No characters have no weights.
@@ -44,7 +46,8 @@ KeepsEmpty m = (level : ℕ) → 1 ≤ level → level ≤ m.levels → m.level_
 
 -- A contraction has two characters or more, all of them of the set.
 abbrev pub KeepsContractions : Meaning → Type 0
-KeepsContractions m = All (λ codes. (2 ≤ length codes) × AreCharsOf m.charset codes) m.contractions
+KeepsContractions m =
+    All (λ codes. (2 ≤ length codes) × AreCharsOf m.charset codes) m.contractions
 
 -- The first k characters have a prefix of the text's first list, and behind it nothing or a tail.
 pub record IsCut (m : Meaning) (k : ℕ) (codes : List ℕ) : Type 0 where
@@ -68,7 +71,8 @@ abbrev pub KeepsHead : Meaning → Type 0
 KeepsHead m =
     (level code : ℕ) (codes : List ℕ) → 1 ≤ level → level ≤ m.levels →
     AreCharsOf m.charset (code ∷ codes) → (IsHead m code → ⊥) →
-    m.level_list level (code ∷ codes) ≡ m.level_list level (code ∷ []) ++ m.level_list level codes
+    m.level_list level (code ∷ codes) ≡ m.level_list level (code ∷ [])
+    ++ m.level_list level codes
 
 -- There are no contractions, and each character of the set has a first weight.
 abbrev pub HasWeightPerChar : Meaning → Type 0
@@ -77,7 +81,8 @@ HasWeightPerChar m = (m.contractions ≡ []) × ((code : ℕ) → IsCharOf m.cha
 
 -- The floor of k is k where each character has a weight of its own, else 0.
 abbrev pub KeepsFloor : Meaning → Type 0
-KeepsFloor m = (k : ℕ) → (HasWeightPerChar m → m.floor k ≡ k) × ((HasWeightPerChar m → ⊥) →
+KeepsFloor m =
+    (k : ℕ) → (HasWeightPerChar m → m.floor k ≡ k) × ((HasWeightPerChar m → ⊥) →
     m.floor k ≡ 0)
 
 -- Lists in lexicographic order, each once.

@@ -1,5 +1,6 @@
 -- What a collation means, by its weight lists (UTS #10; MySQL 8.0 manual, 10.10).
-use Rattle.std.specs.Prelude.{◌≡◌, ℕ, zero, suc, List, [], ◌∷◌, ◌++◌, ◌≢◌, Option, Some, None, take}
+use Rattle.std.specs.Prelude.{◌≡◌, ℕ, zero, suc, List, [], ◌∷◌, ◌++◌, ◌≢◌}
+use Rattle.std.specs.Prelude.{Option, Some, None, take}
 use Rattle.std.specs.List.{Contains}
 use Rattle.mc_charset.specs.declared.charset.Charset.{Charset}
 use Rattle.mc_charset.specs.Chars.{spell, Spells}
@@ -60,7 +61,8 @@ IsHead m code = (rest : List ℕ) × Contains m.contractions (code ∷ rest)
 
 -- No character that begins a contraction has the weights of this one.
 abbrev pub IsSafe : Meaning → ℕ → Type 0
-IsSafe m code = (head : ℕ) → IsHead m head → flat_list m (code ∷ []) ≢ flat_list m (head ∷ [])
+IsSafe m code =
+    (head : ℕ) → IsHead m head → flat_list m (code ∷ []) ≢ flat_list m (head ∷ [])
 
 -- The weights are the first list of a proper prefix of a contraction, and there are some.
 pub record IsTail (m : Meaning) (weights : List ℕ) : Type 0 where

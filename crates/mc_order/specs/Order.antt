@@ -43,4 +43,5 @@ order_to_end PadSpace space (x ∷ xs) =
 unfoldable pub list_order : Pad → ℕ → List ℕ → List ℕ → Ordering
 list_order pad space [] ys = ordering_reverse (order_to_end pad space ys)
 list_order pad space (x ∷ xs) [] = order_to_end pad space (x ∷ xs)
-list_order pad space (x ∷ xs) (y ∷ ys) = ordering_then (nat_cmp x y) (list_order pad space xs ys)
+list_order pad space (x ∷ xs) (y ∷ ys) =
+    ordering_then (nat_cmp x y) (list_order pad space xs ys)

@@ -1,5 +1,6 @@
 -- What the rows of a character set say of its spellings.
-use Rattle.std.proofs.Common.{◌≡◌, ℕ, ◌+◌, ◌-◌, ◌/◌, ◌<◌, ◌≤◌, ◌&&◌, nat_le, Bool, true, false}
+use Rattle.std.proofs.Common.{◌≡◌, ℕ, ◌+◌, ◌-◌, ◌/◌, ◌<◌, ◌≤◌}
+use Rattle.std.proofs.Common.{◌&&◌, nat_le, Bool, true, false}
 use Rattle.std.proofs.Common.{List, [], ◌∷◌, Some, refl, sym, ◌∙◌, arith}
 use Rattle.std.proofs.lemmas.Bool.Decides.{nat_tests}
 use Rattle.mc_charset.specs.declared.charset.Charset.{Charset}
@@ -71,11 +72,13 @@ all_rows test (row ∷ rows) = test row.bytes && all_rows test rows
 -- A spelling is a byte sequence of a row's ranges.
 pub row_of : (test : List Range → Bool) (rows : List Row) (code : ℕ) (front : List ℕ) →
     all_rows test rows ≡ true → spelling_in rows code ≡ Some front →
-    (rs : List Range) × (n : ℕ) × (n < count rs) × (front ≡ sequence rs n) × (test rs ≡ true)
+    (rs : List Range) × (n : ℕ) × (n < count rs) × (front ≡ sequence rs n)
+    × (test rs ≡ true)
 row_of test [] code front e s = absurd cc
 row_of test (row ∷ rows) code front e s =
     either (has_code row code)
-    ((rs : List Range) × (n : ℕ) × (n < count rs) × (front ≡ sequence rs n) × (test rs ≡ true))
+    ((rs : List Range) × (n : ℕ) × (n < count rs) × (front ≡ sequence rs n)
+    × (test rs ≡ true))
     (λ has. (
       row.bytes,
       code - row.first,
@@ -88,6 +91,7 @@ row_of test (row ∷ rows) code front e s =
 
 pub spelling_row : (set : Charset) (test : List Range → Bool) (code : ℕ) (front : List ℕ) →
     all_rows test (rows set) ≡ true → spell set code ≡ Some front →
-    (rs : List Range) × (n : ℕ) × (n < count rs) × (front ≡ sequence rs n) × (test rs ≡ true)
+    (rs : List Range) × (n : ℕ) × (n < count rs) × (front ≡ sequence rs n)
+    × (test rs ≡ true)
 unfolding spell
 spelling_row set test code front e s = row_of test (rows set) code front e s

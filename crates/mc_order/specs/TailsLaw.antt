@@ -1,5 +1,6 @@
 -- `tails_of` gives the tails that the laws ask for.
-use Rattle.std.proofs.Common.{◌≡◌, ◌≢◌, ◌⊎◌, ◌↔◌, ℕ, List, [], ◌∷◌, ◌++◌, map, refl, sym, ap, ◌∙◌}
+use Rattle.std.proofs.Common.{◌≡◌, ◌≢◌, ◌⊎◌, ◌↔◌, ℕ, List, [], ◌∷◌}
+use Rattle.std.proofs.Common.{◌++◌, map, refl, sym, ap, ◌∙◌}
 use Rattle.std.proofs.Common.{subst, inl, inr, ⊎_elim}
 use Rattle.std.specs.List.{Contains, filter, flat_map}
 use Rattle.mc_order.specs.Meaning.{Meaning, IsTail}
@@ -13,7 +14,8 @@ among_filter : (zs : List (List ℕ)) (z : List ℕ) → Among z (filter has_mem
     Among z zs × (z ≢ [])
 among_filter [] z h = absurd h
 among_filter ([] ∷ ys) z h = let k = among_filter ys z h in (inr k.0, k.1)
-among_filter ((w ∷ ws) ∷ ys) z (inl e) = (inl e, λ none. let f : w ∷ ws ≡ [] = sym e ∙ none in cc)
+among_filter ((w ∷ ws) ∷ ys) z (inl e) =
+    (inl e, λ none. let f : w ∷ ws ≡ [] = sym e ∙ none in cc)
 among_filter ((w ∷ ws) ∷ ys) z (inr h) = let k = among_filter ys z h in (inr k.0, k.1)
 
 filter_among : (zs : List (List ℕ)) (z : List ℕ) → Among z zs → z ≢ [] →
@@ -30,15 +32,18 @@ among_map f [] z h = absurd h
 among_map f (x ∷ xs) z (inl e) = (x, inl refl, sym e)
 among_map f (x ∷ xs) z (inr h) = let k = among_map f xs z h in (k.0, inr k.1, k.2)
 
-map_among : {X Y : Type 0} (f : X → Y) (xs : List X) (x : X) → Among x xs → Among (f x) (map f xs)
+map_among : {X Y : Type 0} (f : X → Y) (xs : List X) (x : X) → Among x xs
+    → Among (f x) (map f xs)
 map_among f [] x h = absurd h
 map_among f (y ∷ ys) x (inl e) = inl (ap f e)
 map_among f (y ∷ ys) x (inr h) = inr (map_among f ys x h)
 
-among_append : {X : Type 0} (xs ys : List X) (z : X) → Among z (xs ++ ys) → Among z xs ⊎ Among z ys
+among_append : {X : Type 0} (xs ys : List X) (z : X) → Among z (xs ++ ys)
+    → Among z xs ⊎ Among z ys
 among_append [] ys z h = inr h
 among_append (x ∷ xs) ys z (inl e) = inl (inl e)
-among_append (x ∷ xs) ys z (inr h) = ⊎_elim (λ a. inl (inr a)) (λ b. inr b) (among_append xs ys z h)
+among_append (x ∷ xs) ys z (inr h) =
+    ⊎_elim (λ a. inl (inr a)) (λ b. inr b) (among_append xs ys z h)
 
 append_left : {X : Type 0} (xs ys : List X) (z : X) → Among z xs → Among z (xs ++ ys)
 append_left [] ys z h = absurd h
@@ -61,7 +66,8 @@ flat_among : {X Y : Type 0} (f : X → List Y) (xs : List X) (x : X) (z : Y) →
 flat_among f [] x z h a = absurd h
 flat_among f (y ∷ ys) x z (inl e) a =
     append_left (f y) (flat_map f ys) z (subst (λ w. Among z (f w)) e a)
-flat_among f (y ∷ ys) x z (inr h) a = append_right (f y) (flat_map f ys) z (flat_among f ys x z h a)
+flat_among f (y ∷ ys) x z (inr h) a =
+    append_right (f y) (flat_map f ys) z (flat_among f ys x z h a)
 
 -- The list begins with this one and goes on.
 abbrev IsFront : List ℕ → List ℕ → Type 0
@@ -70,7 +76,8 @@ IsFront front codes = (rest : List ℕ) × (rest ≢ []) × (codes ≡ front ++ 
 among_fronts : (codes front : List ℕ) → Among front (fronts codes) → IsFront front codes
 unfolding fronts
 among_fronts [] front h = absurd h
-among_fronts (c ∷ cs) front (inl e) = (c ∷ cs, (λ none. cc), ap (λ f. f ++ (c ∷ cs)) (sym e))
+among_fronts (c ∷ cs) front (inl e) =
+    (c ∷ cs, (λ none. cc), ap (λ f. f ++ (c ∷ cs)) (sym e))
 among_fronts (c ∷ cs) front (inr h) =
     let k = among_map (λ f. c ∷ f) (fronts cs) front h in
     let more = among_fronts cs k.0 k.1 in

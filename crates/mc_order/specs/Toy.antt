@@ -1,5 +1,6 @@
 -- A small kind of collation for the tests, of two weight levels over bytes, in Hungarian's manner.
-use Rattle.std.specs.Prelude.{ℕ, zero, suc, ◌+◌, ◌-◌, ◌==◌, ◌&&◌, Bool, false, nat_le, List, []}
+use Rattle.std.specs.Prelude.{ℕ, zero, suc, ◌+◌, ◌-◌, ◌==◌, ◌&&◌, Bool, false}
+use Rattle.std.specs.Prelude.{nat_le, List, []}
 use Rattle.std.specs.Prelude.{◌∷◌, ◌++◌, if◌then◌else◌}
 use Rattle.mc_charset.specs.declared.charset.Charset.TheVariants.{Binary}
 use Rattle.mc_order.specs.declared.pad.Pad.TheVariants.{NoPad}

@@ -1,6 +1,8 @@
 -- The small kind of the tests keeps the laws.
-use Rattle.std.proofs.Common.{◌≡◌, ◌≢◌, ◌⊎◌, ◌↔◌, ℕ, zero, suc, ◌+◌, ◌-◌, ◌<◌, ◌≤◌, ◌==◌, Bool}
-use Rattle.std.proofs.Common.{true, false, cond, List, [], ◌∷◌, ◌++◌, append_assoc, append-nil}
+use Rattle.std.proofs.Common.{◌≡◌, ◌≢◌, ◌⊎◌, ◌↔◌, ℕ, zero, suc, ◌+◌}
+use Rattle.std.proofs.Common.{◌-◌, ◌<◌, ◌≤◌, ◌==◌, Bool}
+use Rattle.std.proofs.Common.{true, false, cond, List, [], ◌∷◌, ◌++◌, append_assoc}
+use Rattle.std.proofs.Common.{append-nil}
 use Rattle.std.proofs.Common.{length, take, refl, sym, ap, ◌∙◌, inl, inr, arith}
 use Rattle.std.specs.List.{All, Contains}
 use Rattle.std.specs.Prelude.{slice_index_or, if◌then◌else◌}
@@ -8,7 +10,7 @@ use Rattle.std.proofs.lemmas.Bool.Decides.{nat_tests}
 use Rattle.std.proofs.lemmas.List.Elements.{All-nil, All-cons, All-append}
 use Rattle.mc_charset.specs.declared.charset.Charset.TheVariants.{Binary}
 use Rattle.mc_charset.specs.Chars.{spell, spell_all, code_points}
-use Rattle.mc_charset.proofs.CodePoints.{spelled_code_point}
+use Rattle.mc_charset.specs.CodePoints.{spelled_code_point}
 use Rattle.mc_order.specs.Order.{list_order, order_to_end}
 use Rattle.mc_order.specs.Meaning.{separator, flat_list, IsHead, IsSafe, AreCharsOf}
 use Rattle.mc_order.specs.Laws.{greatest_weight, IsWeight, IsCut, KeepsSettings}
@@ -20,13 +22,16 @@ use Rattle.mc_order.specs.Toy.{folded, capital_weights, begins_dzs, dzs_weights,
 use Rattle.mc_order.specs.Toy.{toy_meaning}
 
 -- One step of the list, by whether dzs begins it.
-pub toy_list-dzs : (level code : ℕ) (codes : List ℕ) → begins_dzs (code ∷ codes) ≡ true →
+pub toy_list-dzs : (level code : ℕ) (codes : List ℕ)
+    → begins_dzs (code ∷ codes) ≡ true →
     toy_list 0 level (code ∷ codes) ≡ dzs_weights level ++ toy_list 2 level codes
 unfolding toy_list
 toy_list-dzs level code codes e = rw e refl
 
-pub toy_list-char : (level code : ℕ) (codes : List ℕ) → begins_dzs (code ∷ codes) ≡ false →
-    toy_list 0 level (code ∷ codes) ≡ capital_weights level (folded code) ++ toy_list 0 level codes
+pub toy_list-char : (level code : ℕ) (codes : List ℕ)
+    → begins_dzs (code ∷ codes) ≡ false →
+    toy_list 0 level (code ∷ codes) ≡ capital_weights level (folded code)
+    ++ toy_list 0 level codes
 unfolding toy_list
 toy_list-char level code codes e = rw e refl
 
@@ -52,7 +57,8 @@ by_test : (b : Bool) (P : Type 0) → (b ≡ true → P) → (b ≡ false → P)
 by_test true P holds fails = holds refl
 by_test false P holds fails = fails refl
 
-fits : (weight : ℕ) → 1 ≤ weight → weight ≤ greatest_weight → IsWeight toy_meaning weight
+fits : (weight : ℕ) → 1 ≤ weight → weight ≤ greatest_weight
+    → IsWeight toy_meaning weight
 fits weight some below = (some, below, omega arith, omega arith)
 
 one_fits : (weight : ℕ) → 1 ≤ weight → weight ≤ greatest_weight →
@@ -164,10 +170,12 @@ dzs_cut (suc zero) code (x ∷ y ∷ codes) e more =
     )
 dzs_cut (suc (suc k)) code (x ∷ y ∷ codes) e more =
     rw (toy_list-dzs 1 code (x ∷ y ∷ take k codes) e, toy_list-dzs 1 code (x ∷ y ∷ codes) e)
-    (extend (dzs_weights 1) (toy_list 2 1 (x ∷ y ∷ take k codes)) (toy_list 2 1 (x ∷ y ∷ codes))
+    (extend (dzs_weights 1) (toy_list 2 1 (x ∷ y ∷ take k codes))
+    (toy_list 2 1 (x ∷ y ∷ codes))
     more)
 
-cut_step : (k code : ℕ) (codes : List ℕ) (begins : Bool) → begins_dzs (code ∷ codes) ≡ begins →
+cut_step : (k code : ℕ) (codes : List ℕ) (begins : Bool)
+    → begins_dzs (code ∷ codes) ≡ begins →
     HasCut (toy_list 0 1 (take k codes)) (toy_list 0 1 codes) →
     HasCut (toy_list 2 1 (take k codes)) (toy_list 2 1 codes) →
     HasCut (toy_list 0 1 (code ∷ take k codes)) (toy_list 0 1 (code ∷ codes))
@@ -204,12 +212,14 @@ d_heads = (0x7A ∷ 0x73 ∷ [], (0, omega arith, refl))
 head_is_d : (code : ℕ) → IsHead toy_meaning code → code ≡ 0x64
 head_is_d code h = at h.1.0 h.1.1 h.1.2
   where
-    at : (k : ℕ) → k < 1 → slice_index_or toy_meaning.contractions k (code ∷ h.0) ≡ code ∷ h.0 →
+    at : (k : ℕ) → k < 1
+        → slice_index_or toy_meaning.contractions k (code ∷ h.0) ≡ code ∷ h.0 →
         code ≡ 0x64
     at zero below e = let s : 0x64 ∷ 0x7A ∷ 0x73 ∷ [] ≡ code ∷ h.0 = e in cc
     at (suc k) below e = absurd (omega arith)
 
-begins_not : (code : ℕ) (codes : List ℕ) → (code ≡ 0x64 → ⊥) → begins_dzs (code ∷ codes) ≡ false
+begins_not : (code : ℕ) (codes : List ℕ) → (code ≡ 0x64 → ⊥)
+    → begins_dzs (code ∷ codes) ≡ false
 begins_not code [] other = refl
 begins_not code (x ∷ []) other = refl
 begins_not code (x ∷ y ∷ codes) other = grind (arith, nat_tests)
@@ -283,10 +293,12 @@ shown_is code =
 
 -- Two characters are the same exactly where they are one letter.
 pub toy_same : (c d : ℕ) →
-    (folded c ≡ folded d) ↔ (flat_list toy_meaning (c ∷ []) ≡ flat_list toy_meaning (d ∷ []))
+    (folded c ≡ folded d)
+    ↔ (flat_list toy_meaning (c ∷ []) ≡ flat_list toy_meaning (d ∷ []))
 toy_same c d = (
   λ e. flat_is c ∙ ap flat_of e ∙ sym (flat_is d),
-  λ e. sym (shown_is (folded c)) ∙ ap shown (sym (flat_is c) ∙ e ∙ flat_is d) ∙ shown_is (folded d),
+  λ e. sym (shown_is (folded c)) ∙ ap shown (sym (flat_is c) ∙ e ∙ flat_is d)
+      ∙ shown_is (folded d),
 )
 
 -- All are safe but d and D.

@@ -1,5 +1,6 @@
 -- What a collation keeps that has no contractions: each character has weights of its own.
-use Rattle.std.proofs.Common.{◌≡◌, ◌≢◌, ◌⊎◌, ℕ, zero, suc, ◌≤◌, List, [], ◌∷◌, ◌++◌, map, length}
+use Rattle.std.proofs.Common.{◌≡◌, ◌≢◌, ◌⊎◌, ℕ, zero, suc, ◌≤◌, List, []}
+use Rattle.std.proofs.Common.{◌∷◌, ◌++◌, map, length}
 use Rattle.std.proofs.Common.{take, drop, length-append, refl, sym, ap, ◌∙◌, inl, inr, arith}
 use Rattle.std.specs.List.{All, flat_map}
 use Rattle.std.proofs.lemmas.Grind.{flat_map-append}
@@ -30,7 +31,8 @@ map-split f (suc k) [] = refl
 map-split f (suc k) (code ∷ codes) = ap (λ t. f code ∷ t) (map-split f k codes)
 
 -- One character more has one weight more, or more than one.
-more : (weights rest : List ℕ) (k : ℕ) (P : Type 0) → weights ≢ [] → (k ≤ length rest) ⊎ P →
+more : (weights rest : List ℕ) (k : ℕ) (P : Type 0) → weights ≢ []
+    → (k ≤ length rest) ⊎ P →
     (suc k ≤ length (weights ++ rest)) ⊎ P
 more [] rest k P some h = absurd (some refl)
 more (weight ∷ weights) rest k P some (inl h) =
@@ -38,7 +40,8 @@ more (weight ∷ weights) rest k P some (inl h) =
 more (weight ∷ weights) rest k P some (inr h) = inr h
 
 -- Where each character has a weight, the first k have k weights or more, or all of them.
-pub flat_map-enough : (f : ℕ → List ℕ) (k : ℕ) (codes : List ℕ) → All (λ code. f code ≢ []) codes →
+pub flat_map-enough : (f : ℕ → List ℕ) (k : ℕ) (codes : List ℕ)
+    → All (λ code. f code ≢ []) codes →
     (k ≤ length (flat_map f (take k codes))) ⊎ (flat_map f (drop k codes) ≡ [])
 flat_map-enough f zero codes some = inl (omega arith)
 flat_map-enough f (suc k) [] some = inr refl

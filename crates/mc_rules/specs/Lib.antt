@@ -1,4 +1,5 @@
 pub mod Bases
 pub mod Jamo
 pub mod Outside
+pub mod Unlisted
 pub mod Elements

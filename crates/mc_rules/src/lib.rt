@@ -9,10 +9,12 @@ mod bases;
 mod family;
 mod jamo;
 mod laws;
+mod put_outside;
 #[cfg(test)]
 mod tests;
 mod unlisted;
 
 pub use family::UcaFamily;
 pub use laws::elements_law;
-pub use unlisted::outside;
+pub use put_outside::outside;
+pub use unlisted::{Syllable, Unlisted, unlisted_jamo, unlisted_of};

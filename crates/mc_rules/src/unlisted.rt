@@ -1,146 +1,150 @@
-ghost use Rattle.std.specs.Prelude.{◌≡◌, ◌≤◌, ◌<◌, ◌++◌, ◌-◌, ◌+◌, ◌%◌, ◌==◌, [], ◌∷◌, length};
-ghost use Rattle.std.specs.Prelude.{take, OnOk, OnErr};
+ghost use Rattle.std.specs.Prelude.{◌≡◌, ◌≤◌, ◌<◌, ◌-◌, ◌+◌, ◌%◌, ◌/◌, ◌==◌, [], ◌∷◌};
 ghost use Rattle.std.specs.List.{flat_map};
+ghost use Rattle.std.specs.Option.{option_to_list};
+ghost use Rattle.mc_allkeys.specs.Table.{Entries};
 ghost use Rattle.mc_rules.specs.Jamo.{jamo_of, trailing_of};
-ghost use Rattle.mc_rules.specs.Outside.{pair, implicit, jamo_elements, uncovered, outside_new};
+ghost use Rattle.mc_rules.specs.Outside.{pair, implicit, uncovered, outside_new};
 ghost use Rattle.mc_rules.specs.Outside.{outside_old, outside_of};
+ghost use Rattle.mc_rules.specs.Unlisted.{elements_by};
 
 use crate::bases::{new_base, old_base};
 use crate::family::UcaFamily;
 use crate::jamo::is_syllable;
 use mc_allkeys::{Element, Keys};
-use mc_base::{List, NoMemory};
 
-/// Appends the elements that a code point without an entry has (UTS #10, 10.1.3).
+/// The elements that a code point without an entry has, in a place of one size.
+#[derive(Clone, Copy, Debug)]
+pub enum Unlisted {
+    /// One element.
+    One(Element),
+    /// Two elements, of a base and a number.
+    Pair(Element, Element),
+    /// Those of the jamo of a Hangul syllable, one after the other.
+    Syllable(Syllable),
+}
+
+/// The jamo of a Hangul syllable (Unicode Standard, 3.12), as code points.
+#[derive(Clone, Copy, Debug)]
+pub struct Syllable {
+    /// The leading consonant.
+    pub leading: u16,
+    /// The vowel.
+    pub vowel: u16,
+    /// The trailing consonant, if it has one.
+    pub trailing: Option<u16>,
+}
+
+/// The elements that a code point without an entry has (UTS #10, 10.1.3); no memory is taken.
 #[tactic(auto, unfolding(crate::specs::Outside::outside_of))]
-pub fn outside(
-    keys: &Keys,
-    kind: UcaFamily,
-    c: u32,
-    out: &mut List<Element>,
-) -> Result<(), NoMemory>
+pub fn unlisted_of(keys: &Keys, kind: UcaFamily, c: u32) -> Unlisted
     requires { c ≤ 0x10FFFF }
-    ensures ok { OnOk result (out.new ≡ out.old ++ outside_of keys.now kind c) }
-    ensures err { OnErr result (out.new ≡ out.old) }
+    ensures { elements_by keys.now.entries result ≡ outside_of keys.now kind c }
 {
     match kind {
-        UcaFamily::Uca4 => put_old(c, out),
-        UcaFamily::Uca520 => put_implicit(old_base(c), c, out),
-        UcaFamily::Uca9 => put_new(keys, c, out),
+        UcaFamily::Uca4 => unlisted_old(c),
+        UcaFamily::Uca520 => implicit(old_base(c), c),
+        UcaFamily::Uca9 => unlisted_new(keys, c),
     }
 }
 
-/// Appends the elements of a code point in version 4.0.0.
-fn put_old(c: u32, out: &mut List<Element>) -> Result<(), NoMemory>
+/// The two elements of a jamo without an entry (UTS #10, 10.1.3), those of any character without a
+/// script of its own.
+pub fn unlisted_jamo(jamo: u16) -> (Element, Element)
+    ensures { result.0 ∷ result.1 ∷ [] ≡ implicit 0xFBC0 jamo }
+{
+    let second = jamo % 0x8000 + 0x8000;
+    pair(0xFBC0 + jamo / 0x8000, second)
+}
+
+/// The elements of a code point in version 4.0.0.
+fn unlisted_old(c: u32) -> Unlisted
     requires { c ≤ 0x10FFFF }
-    ensures ok { OnOk result (out.new ≡ out.old ++ outside_old c) }
-    ensures err { OnErr result (out.new ≡ out.old) }
+    ensures { (entries : Entries) → elements_by entries result ≡ outside_old c }
 {
     if c > 0xFFFF {
-        return out.push(Element {
+        return Unlisted::One(Element {
             p: 0xFFFD,
             s: 0x20,
             t: 2,
         });
     }
-    put_implicit(old_base(c), c, out)
+    implicit(old_base(c), c)
 }
 
-/// Appends two elements with these primary weights.
-fn put_pair(first: u16, second: u16, out: &mut List<Element>) -> Result<(), NoMemory>
-    ensures ok { OnOk result (out.new ≡ out.old ++ pair first second) }
-    ensures err { OnErr result (out.new ≡ out.old) }
+/// Two elements with these primary weights.
+fn pair(first: u16, second: u16) -> (Element, Element)
+    ensures { result.0 ∷ result.1 ∷ [] ≡ pair first second }
 {
-    let elements = [
-        Element {
-            p: first,
-            s: 0x20,
-            t: 2,
-        },
-        Element {
-            p: second,
-            s: 0,
-            t: 0,
-        },
-    ];
-    out.extend_from_slice(&elements)
+    let front = Element {
+        p: first,
+        s: 0x20,
+        t: 2,
+    };
+    let behind = Element {
+        p: second,
+        s: 0,
+        t: 0,
+    };
+    (front, behind)
 }
 
-/// Appends the elements of a number with a base.
-fn put_implicit(base: u16, number: u32, out: &mut List<Element>) -> Result<(), NoMemory>
+/// The elements of a number with a base.
+fn implicit(base: u16, number: u32) -> Unlisted
     requires small { base ≤ 0xFBC0 }
     requires is_code { number ≤ 0x10FFFF }
-    ensures ok { OnOk result (out.new ≡ out.old ++ implicit base number) }
-    ensures err { OnErr result (out.new ≡ out.old) }
+    ensures { (entries : Entries) → elements_by entries result ≡ implicit base number }
 {
     let first = u32::from(base) + number / 0x8000;
     let second = number % 0x8000 + 0x8000;
-    put_pair(first as u16, second as u16, out)
+    let (front, behind) = pair(first as u16, second as u16);
+    Unlisted::Pair(front, behind)
 }
 
-/// Appends the elements of a code point in version 9.0.0.
-fn put_new(keys: &Keys, c: u32, out: &mut List<Element>) -> Result<(), NoMemory>
+/// The elements of a code point in version 9.0.0.
+fn unlisted_new(keys: &Keys, c: u32) -> Unlisted
     requires { c ≤ 0x10FFFF }
-    ensures ok { OnOk result (out.new ≡ out.old ++ outside_new keys.now c) }
-    ensures err { OnErr result (out.new ≡ out.old) }
+    ensures { elements_by keys.now.entries result ≡ outside_new keys.now c }
 {
     match keys.implicit_base(c) {
-        Some((base, number)) => put_pair(base, (number % 0x8000 + 0x8000) as u16, out),
-        None => put_uncovered(keys, c, out),
+        Some((base, number)) => {
+            let (front, behind) = pair(base, (number % 0x8000 + 0x8000) as u16);
+            Unlisted::Pair(front, behind)
+        }
+        None => unlisted_uncovered(c),
     }
 }
 
-/// Appends the elements of a code point that no range covers.
-fn put_uncovered(keys: &Keys, c: u32, out: &mut List<Element>) -> Result<(), NoMemory>
+/// The elements of a code point that no range covers.
+fn unlisted_uncovered(c: u32) -> Unlisted
     requires { c ≤ 0x10FFFF }
-    ensures ok { OnOk result (out.new ≡ out.old ++ uncovered keys.now.entries c) }
-    ensures err { OnErr result (out.new ≡ out.old) }
+    ensures { (entries : Entries) → elements_by entries result ≡ uncovered entries c }
 {
     if is_syllable(c) {
-        put_syllable(keys, c - 0xAC00, out)
+        Unlisted::Syllable(jamo_of(c - 0xAC00))
     } else {
-        put_implicit(new_base(c), c, out)
+        implicit(new_base(c), c)
     }
 }
 
-/// Appends the elements of a syllable's jamo, all of them or, without memory, none.
-fn put_syllable(keys: &Keys, number: u32, out: &mut List<Element>) -> Result<(), NoMemory>
+/// The jamo of a syllable's number.
+fn jamo_of(number: u32) -> Syllable
     requires { number ≤ 0x2BA3 }
-    ensures ok { OnOk result
-        (out.new ≡ out.old ++ flat_map (jamo_elements keys.now.entries) (jamo_of number)) }
-    ensures err { OnErr result (out.new ≡ out.old) }
+    ensures { result.leading ∷ result.vowel ∷ option_to_list result.trailing ≡ jamo_of number }
 {
-    let len = out.len();
-    let put = put_jamo_of(keys, number, out);
-    if put.is_err() {
-        out.truncate(len);
+    Syllable {
+        leading: (0x1100 + number / 588) as u16,
+        vowel: (0x1161 + number % 588 / 28) as u16,
+        trailing: trailing_of(number),
     }
-    put
 }
 
-/// Appends the elements of a syllable's jamo.
-fn put_jamo_of(keys: &Keys, number: u32, out: &mut List<Element>) -> Result<(), NoMemory>
-    requires { number ≤ 0x2BA3 }
-    ensures ok { OnOk result
-        (out.new ≡ out.old ++ flat_map (jamo_elements keys.now.entries) (jamo_of number)) }
-    ensures kept { take (length out.old) out.new ≡ out.old }
+/// The trailing jamo of a syllable's number, if it has one.
+fn trailing_of(number: u32) -> Option<u16>
+    ensures { option_to_list result ≡ trailing_of number }
 {
-    put_jamo(keys, 0x1100 + number / 588, out)?;
-    put_jamo(keys, 0x1161 + number % 588 / 28, out)?;
     if number % 28 == 0 {
-        return Ok(());
-    }
-    put_jamo(keys, 0x11A7 + number % 28, out)
-}
-
-/// Appends the elements of a jamo.
-fn put_jamo(keys: &Keys, jamo: u32, out: &mut List<Element>) -> Result<(), NoMemory>
-    requires { jamo ≤ 0x10FFFF }
-    ensures ok { OnOk result (out.new ≡ out.old ++ jamo_elements keys.now.entries jamo) }
-    ensures err { OnErr result (out.new ≡ out.old) }
-{
-    match keys.single(jamo) {
-        Some(elements) => out.extend_from_slice(elements),
-        None => put_implicit(0xFBC0, jamo, out),
+        None
+    } else {
+        Some((0x11A7 + number % 28) as u16)
     }
 }

@@ -1,7 +1,8 @@
 -- Which classes have no token in common, and which are one.
 use Rattle.std.specs.Prelude.{Bool, true, false, not, ◌&&◌, ◌||◌, codes}
 use Rattle.std.specs.Str.{bytes_eq}
-use Rattle.mc_sql.specs.Classes.{Class, word, mark, name, called, called_otherwise, intro, int, str, national, hex, is_reserved, is_intro, is_called}
+use Rattle.mc_sql.specs.Classes.{Class, word, mark, name, called, called_otherwise, intro, int, str}
+use Rattle.mc_sql.specs.Classes.{national, hex, is_reserved, is_intro, is_called}
 use Rattle.mc_token.specs.Marks.{mark_text}
 
 -- No lexeme is of both classes. A name has no string behind it, and ESCAPE nothing else.

@@ -1,5 +1,6 @@
 -- The completions of the grammar are read.
-use Rattle.std.proofs.Common.{◌≡◌, refl, Bool, true, false, List, [], ◌∷◌, IsTrue, Option, Some, None}
+use Rattle.std.proofs.Common.{◌≡◌, refl, Bool, true, false, List, [], ◌∷◌, IsTrue, Option, Some}
+use Rattle.std.proofs.Common.{None}
 use Rattle.std.specs.Option.{option_map}
 use Rattle.mc_token.specs.declared.lexeme.Token.{Token}
 use Rattle.mc_grammar.specs.Grammar.{Symbol, rule}
@@ -11,7 +12,8 @@ use Rattle.mc_grammar.proofs.Search.{Shows, shown, whole_forest, search_readings
 use Rattle.mc_grammar.proofs.Completing.{completes}
 use Rattle.mc_grammar.proofs.Rooms.{free_completed}
 use Rattle.mc_token.specs.Keywords.{keyword_of}
-use Rattle.mc_sql.specs.Classes.{Class, word, mark, name, called, called_otherwise, intro, int, str, national, hex, is_intro, is_called, is_lexeme_of}
+use Rattle.mc_sql.specs.Classes.{Class, word, mark, name, called, called_otherwise, intro, int, str}
+use Rattle.mc_sql.specs.Classes.{national, hex, is_intro, is_called, is_lexeme_of}
 use Rattle.mc_token.specs.Marks.{mark_text}
 use Rattle.mc_sql.specs.Rules.{Rule, Alternative}
 use Rattle.mc_sql.specs.Statements.{statements}
@@ -26,7 +28,8 @@ abbrev is_found : {X : Type 0} → Option X → Bool
 is_found None = false
 is_found (Some x) = true
 
-found_true : {X : Type 0} (o : Option X) → IsTrue (is_found o) → option_map (λ x. true) o ≡ Some true
+found_true : {X : Type 0} (o : Option X) → IsTrue (is_found o)
+    → option_map (λ x. true) o ≡ Some true
 found_true None h = absurd (cc)
 found_true (Some x) h = refl
 

@@ -5,4 +5,5 @@ pub mod Spellings
 pub mod Decided
 pub mod Sound
 pub mod Completing
+pub mod Nests
 pub mod StandardFacts

@@ -2,7 +2,14 @@
 use Rattle.std.proofs.Common.{◌≡◌, refl, ℕ, zero, suc, Bool, List, [], ◌∷◌, IsTrue, subst}
 use Rattle.mc_grammar.specs.Ahead.{every}
 use Rattle.mc_grammar.proofs.Ahead.{chosen}
-use Rattle.mc_sql.specs.Rules.{Rule, statement, explain_option, distinct_option, more_items, source_option, source, where_option, group_option, more_ors, order_option, more_orders, limit_option, offset_option, item, alias_option, order, direction_option, or, more_xors, xor, more_ands, and, more_nots, not, pred, not_option, escape_option, cmp, sum, more_prods, prod, more_negs, neg, coll, more_collates, name_or_binary, prim, string, more_strs, call, set_option, side, or_option, length_option, cut_option}
+use Rattle.mc_sql.specs.Rules.{Rule, statement, explain_option, distinct_option, more_items}
+use Rattle.mc_sql.specs.Rules.{source_option, source, where_option, group_option, more_ors}
+use Rattle.mc_sql.specs.Rules.{order_option, more_orders, limit_option, offset_option, item}
+use Rattle.mc_sql.specs.Rules.{alias_option, order, direction_option, or, more_xors, xor, more_ands}
+use Rattle.mc_sql.specs.Rules.{and, more_nots, not, pred, not_option, escape_option, cmp, sum}
+use Rattle.mc_sql.specs.Rules.{more_prods, prod, more_negs, neg, coll, more_collates}
+use Rattle.mc_sql.specs.Rules.{name_or_binary, prim, string, more_strs, call, set_option, side}
+use Rattle.mc_sql.specs.Rules.{or_option, length_option, cut_option}
 use Rattle.mc_sql.proofs.Tables.{number_of}
 
 -- The rules in the order of their numbers.

@@ -1,17 +1,22 @@
 -- The comparisons of classes and rules say what is so.
-use Rattle.std.proofs.Common.{◌≡◌, ◌⊎◌, inl, inr, refl, sym, ap, ◌∙◌, subst, ℕ, Bool, true, false, not, ◌&&◌, ◌||◌, List, [], ◌∷◌, IsTrue, codes, Option, Some, None, nat_eq, arith}
+use Rattle.std.proofs.Common.{◌≡◌, ◌⊎◌, inl, inr, refl, sym, ap, ◌∙◌, subst, ℕ, Bool, true, false}
+use Rattle.std.proofs.Common.{not, ◌&&◌, ◌||◌, List, [], ◌∷◌, IsTrue, codes, Option, Some, None}
+use Rattle.std.proofs.Common.{nat_eq, arith}
 use Rattle.std.proofs.lemmas.Bool.Decides.{nat_tests}
 use Rattle.mc_token.specs.declared.lexeme.Lexeme.{Lexeme}
-use Rattle.mc_token.specs.declared.lexeme.Lexeme.TheVariants.{Word, Name, Int, Str, National, Hex, Sym}
+use Rattle.mc_token.specs.declared.lexeme.Lexeme.TheVariants.{Word, Name, Int, Str, National, Hex}
+use Rattle.mc_token.specs.declared.lexeme.Lexeme.TheVariants.{Sym}
 use Rattle.mc_token.specs.declared.lexeme.Token.{Token}
 use Rattle.mc_token.specs.declared.lexeme.Symbol.{Symbol}
-use Rattle.mc_grammar.specs.Ahead.{Ahead, every, Meets, Begins, StandsBehind, MeetsWhole, BeginsWhole, Covers}
+use Rattle.mc_grammar.specs.Ahead.{Ahead, every, Meets, Begins, StandsBehind, MeetsWhole}
+use Rattle.mc_grammar.specs.Ahead.{BeginsWhole, Covers}
 use Rattle.mc_grammar.specs.Apart.{ToldApart}
 use Rattle.mc_grammar.proofs.Ahead.{chosen}
 use Rattle.mc_token.specs.Marks.{mark_text}
 use Rattle.std.specs.Str.{bytes_eq}
 use Rattle.std.proofs.lemmas.Slice.Eq.{bytes_eq-Decides}
-use Rattle.mc_sql.specs.Classes.{Class, word, mark, name, called, called_otherwise, intro, int, str, national, hex, is_reserved, is_intro, is_called, is_lexeme_of}
+use Rattle.mc_sql.specs.Classes.{Class, word, mark, name, called, called_otherwise, intro, int, str}
+use Rattle.mc_sql.specs.Classes.{national, hex, is_reserved, is_intro, is_called, is_lexeme_of}
 use Rattle.mc_sql.specs.Rules.{Rule, statement}
 use Rattle.mc_sql.specs.Statements.{statements}
 use Rattle.mc_sql.proofs.Apart.{are_apart, is_within}
@@ -129,7 +134,8 @@ apart_word _ _ w tokens h p b q c = cc
 -- No lexeme of another kind is of both classes.
 apart_mark : (k l : Class) (symbol : Symbol) → IsTrue (are_apart k l)
     → IsTrue (is_lexeme_of k (Sym symbol)) → IsTrue (is_lexeme_of l (Sym symbol)) → ⊥
-apart_mark (mark a) (mark o) symbol h p q = two_texts (mark_text a) (mark_text o) (mark_text symbol) h p q
+apart_mark (mark a) (mark o) symbol h p q =
+    two_texts (mark_text a) (mark_text o) (mark_text symbol) h p q
 apart_mark _ _ symbol h p q = cc
 
 apart_quoted : (k l : Class) (text : List ℕ) → IsTrue (are_apart k l)

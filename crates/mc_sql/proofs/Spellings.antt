@@ -1,7 +1,9 @@
 -- A mark is known by its spelling.
 use Rattle.std.proofs.Common.{◌≡◌, refl, true, false, ℕ, List, [], ◌∷◌}
 use Rattle.mc_token.specs.declared.lexeme.Symbol.{Symbol}
-use Rattle.mc_token.specs.declared.lexeme.Symbol.TheVariants.{LeftParen, RightParen, Comma, Dot, Star, Plus, Minus, Percent, Eq, Ne, NeBang, Lt, Le, Gt, Ge, NullEq}
+use Rattle.mc_token.specs.declared.lexeme.Symbol.TheVariants.{LeftParen, RightParen, Comma, Dot}
+use Rattle.mc_token.specs.declared.lexeme.Symbol.TheVariants.{Star, Plus, Minus, Percent, Eq, Ne}
+use Rattle.mc_token.specs.declared.lexeme.Symbol.TheVariants.{NeBang, Lt, Le, Gt, Ge, NullEq}
 use Rattle.std.specs.Str.{bytes_eq}
 use Rattle.mc_token.specs.Marks.{mark_text}
 

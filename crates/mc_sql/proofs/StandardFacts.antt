@@ -16,10 +16,12 @@ use Rattle.mc_grammar.proofs.RoomTables.{room_sound}
 use Rattle.mc_grammar.proofs.Seeing.{sees_next, sees_two, sees_not_two}
 use Rattle.mc_grammar.proofs.Inside.{enter}
 use Rattle.mc_grammar.proofs.Values.{done_takes}
-use Rattle.mc_grammar.proofs.Ways.{choose, look, take_token, read_rule, read_rule_far, finish, no_place, no_room}
+use Rattle.mc_grammar.proofs.Ways.{choose, look, take_token, read_rule, read_rule_far, finish}
+use Rattle.mc_grammar.proofs.Ways.{no_place, no_room}
 use Rattle.mc_token.specs.Keywords.{keyword_of}
 use Rattle.mc_sql.specs.Classes.{Class, word, is_intro, is_called}
-use Rattle.mc_sql.specs.Rules.{Rule, Alternative, not, pred, not_option, sum, prim, call, escape_option}
+use Rattle.mc_sql.specs.Rules.{Rule, Alternative, not, pred, not_option, sum, prim, call}
+use Rattle.mc_sql.specs.Rules.{escape_option}
 use Rattle.mc_sql.specs.Statements.{statements}
 use Rattle.mc_sql.specs.Nest.{deeper}
 use Rattle.mc_sql.specs.Completions.{completions}
@@ -28,7 +30,8 @@ use Rattle.mc_sql.proofs.Sound.{covers}
 use Rattle.mc_sql.proofs.Completing.{completed}
 
 module _ {V : Type 0} (tv : Token → V) (nv : Alternative → List Token → List V → V) where
-  abbrev language : Language (Admitted Class) (Roomed Rule) (Roomed Alternative) Token (Marked Token) V
+  abbrev language : Language (Admitted Class) (Roomed Rule) (Roomed Alternative) Token
+      (Marked Token) V
   language = room_language statements tables deeper tv nv
 
   sound : IsSound language

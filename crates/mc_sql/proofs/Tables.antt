@@ -1,14 +1,25 @@
 -- What the rules of the grammar begin with and what follows them: computed sets.
-use Rattle.std.specs.Prelude.{Bool, true, false, ℕ, nat_eq, List, [], ◌∷◌, codes, Option, Some, None}
+use Rattle.std.specs.Prelude.{Bool, true, false, ℕ, nat_eq, List, [], ◌∷◌, codes, Option, Some}
+use Rattle.std.specs.Prelude.{None}
 use Prim.Native.String.{String}
 use Rattle.mc_token.specs.declared.lexeme.Symbol.{Symbol as Mark}
-use Rattle.mc_token.specs.declared.lexeme.Symbol.TheVariants.{LeftParen, RightParen, Comma, Dot, Star, Plus, Minus, Percent, Eq, Ne, NeBang, Lt, Le, Gt, Ge, NullEq}
+use Rattle.mc_token.specs.declared.lexeme.Symbol.TheVariants.{LeftParen, RightParen, Comma, Dot}
+use Rattle.mc_token.specs.declared.lexeme.Symbol.TheVariants.{Star, Plus, Minus, Percent, Eq, Ne}
+use Rattle.mc_token.specs.declared.lexeme.Symbol.TheVariants.{NeBang, Lt, Le, Gt, Ge, NullEq}
 use Rattle.mc_grammar.specs.Ahead.{Ahead, Tables}
 use Rattle.std.specs.List.{list_any}
 use Rattle.std.specs.Str.{bytes_eq}
-use Rattle.mc_sql.specs.Classes.{Class, word, mark, name, called, called_otherwise, intro, int, str, national, hex}
+use Rattle.mc_sql.specs.Classes.{Class, word, mark, name, called, called_otherwise, intro, int, str}
+use Rattle.mc_sql.specs.Classes.{national, hex}
 use Rattle.mc_sql.proofs.Apart.{are_apart, is_within}
-use Rattle.mc_sql.specs.Rules.{Rule, statement, explain_option, distinct_option, more_items, source_option, source, where_option, group_option, more_ors, order_option, more_orders, limit_option, offset_option, item, alias_option, order, direction_option, or, more_xors, xor, more_ands, and, more_nots, not, pred, not_option, escape_option, cmp, sum, more_prods, prod, more_negs, neg, coll, more_collates, name_or_binary, prim, string, more_strs, call, set_option, side, or_option, length_option, cut_option}
+use Rattle.mc_sql.specs.Rules.{Rule, statement, explain_option, distinct_option, more_items}
+use Rattle.mc_sql.specs.Rules.{source_option, source, where_option, group_option, more_ors}
+use Rattle.mc_sql.specs.Rules.{order_option, more_orders, limit_option, offset_option, item}
+use Rattle.mc_sql.specs.Rules.{alias_option, order, direction_option, or, more_xors, xor, more_ands}
+use Rattle.mc_sql.specs.Rules.{and, more_nots, not, pred, not_option, escape_option, cmp, sum}
+use Rattle.mc_sql.specs.Rules.{more_prods, prod, more_negs, neg, coll, more_collates}
+use Rattle.mc_sql.specs.Rules.{name_or_binary, prim, string, more_strs, call, set_option, side}
+use Rattle.mc_sql.specs.Rules.{or_option, length_option, cut_option}
 
 abbrev a_word : String → Option Class
 a_word text = Some (word (codes text))
@@ -50,9 +61,9 @@ begins_call =
 abbrev follows_distinct_option : Ahead Class
 follows_distinct_option =
     a_mark Star ∷ a_word "not" ∷ a_mark Minus ∷ Some int ∷ a_word "true" ∷ a_word "false" ∷
-    a_word "null" ∷ Some name ∷ a_mark LeftParen ∷ Some str ∷ Some national ∷ Some hex ∷ Some intro ∷
-    a_word "convert" ∷ a_word "cast" ∷ a_word "count" ∷ a_word "trim" ∷ a_word "substring" ∷
-    a_word "weight_string" ∷ Some called ∷ Some called_otherwise ∷ []
+    a_word "null" ∷ Some name ∷ a_mark LeftParen ∷ Some str ∷ Some national ∷ Some hex ∷
+    Some intro ∷ a_word "convert" ∷ a_word "cast" ∷ a_word "count" ∷ a_word "trim" ∷
+    a_word "substring" ∷ a_word "weight_string" ∷ Some called ∷ Some called_otherwise ∷ []
 
 abbrev follows_item : Ahead Class
 follows_item = a_mark Comma ∷ a_word "from" ∷ a_word "order" ∷ a_word "limit" ∷ None ∷ []

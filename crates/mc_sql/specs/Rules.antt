@@ -90,8 +90,8 @@ alternatives pred = just_sum ∷ compared ∷ tested_null ∷ matched ∷ listed
 alternatives not_option = no_not ∷ with_not ∷ []
 alternatives escape_option = no_escape ∷ with_escape ∷ []
 alternatives cmp =
-    equal ∷ null_equal ∷ unequal ∷ unequal_bang ∷ less ∷ less_equal ∷ greater ∷ greater_equal ∷
-    []
+    equal ∷ null_equal ∷ unequal ∷ unequal_bang ∷ less ∷ less_equal ∷ greater ∷
+    greater_equal ∷ []
 alternatives sum = prods ∷ []
 alternatives more_prods = no_more_prods ∷ plus_prod ∷ minus_prod ∷ []
 alternatives prod = negs ∷ []
@@ -101,14 +101,15 @@ alternatives coll = collated ∷ []
 alternatives more_collates = no_more_collates ∷ one_more_collate ∷ []
 alternatives name_or_binary = by_name ∷ by_binary ∷ []
 alternatives prim =
-    number ∷ true_word ∷ false_word ∷ null_word ∷ just_string ∷ column ∷ table_column ∷
-    just_call ∷ in_parens ∷ []
-alternatives string = plain_string ∷ national_string ∷ hex_string ∷ intro_string ∷ intro_hex ∷ []
+    number ∷ true_word ∷ false_word ∷ null_word ∷ just_string ∷ column ∷
+    table_column ∷ just_call ∷ in_parens ∷ []
+alternatives string =
+    plain_string ∷ national_string ∷ hex_string ∷ intro_string ∷ intro_hex ∷ []
 alternatives more_strs = no_more_strs ∷ one_more_str ∷ []
 alternatives call =
-    convert_call ∷ cast_char_call ∷ cast_binary_call ∷ count_all_call ∷ count_distinct_call ∷
-    trim_side_call ∷ trim_call ∷ substring_call ∷ weight_string_call ∷ empty_call ∷
-    single_call ∷ many_call ∷ []
+    convert_call ∷ cast_char_call ∷ cast_binary_call ∷ count_all_call ∷
+    count_distinct_call ∷ trim_side_call ∷ trim_call ∷ substring_call ∷
+    weight_string_call ∷ empty_call ∷ single_call ∷ many_call ∷ []
 alternatives set_option = no_set ∷ with_set ∷ []
 alternatives side = both_sides ∷ leading_side ∷ trailing_side ∷ []
 alternatives or_option = no_or ∷ given_or ∷ []

@@ -131,12 +131,14 @@ symbols just_pred = rule pred ∷ []
 symbols just_sum = rule sum ∷ []
 symbols compared = rule sum ∷ rule cmp ∷ rule sum ∷ []
 symbols tested_null = rule sum ∷ keyword "is" ∷ rule not_option ∷ keyword "null" ∷ []
-symbols matched = rule sum ∷ rule not_option ∷ keyword "like" ∷ rule sum ∷ rule escape_option ∷ []
+symbols matched =
+    rule sum ∷ rule not_option ∷ keyword "like" ∷ rule sum ∷ rule escape_option ∷ []
 symbols listed =
-    rule sum ∷ rule not_option ∷ keyword "in" ∷ sign LeftParen ∷ rule or ∷ rule more_ors ∷
-    sign RightParen ∷ []
+    rule sum ∷ rule not_option ∷ keyword "in" ∷ sign LeftParen ∷ rule or ∷
+    rule more_ors ∷ sign RightParen ∷ []
 symbols ranged =
-    rule sum ∷ rule not_option ∷ keyword "between" ∷ rule sum ∷ keyword "and" ∷ rule sum ∷ []
+    rule sum ∷ rule not_option ∷ keyword "between" ∷ rule sum ∷ keyword "and" ∷
+    rule sum ∷ []
 -- [NOT]
 symbols no_not = []
 symbols with_not = keyword "not" ∷ []
@@ -209,8 +211,8 @@ symbols convert_call =
     keyword "convert" ∷ sign LeftParen ∷ rule or ∷ keyword "using" ∷ rule name_or_binary ∷
     sign RightParen ∷ []
 symbols cast_char_call =
-    keyword "cast" ∷ sign LeftParen ∷ rule or ∷ keyword "as" ∷ keyword "char" ∷ rule set_option ∷
-    sign RightParen ∷ []
+    keyword "cast" ∷ sign LeftParen ∷ rule or ∷ keyword "as" ∷ keyword "char" ∷
+    rule set_option ∷ sign RightParen ∷ []
 symbols cast_binary_call =
     keyword "cast" ∷ sign LeftParen ∷ rule or ∷ keyword "as" ∷ keyword "binary" ∷
     sign RightParen ∷ []
@@ -218,15 +220,17 @@ symbols count_all_call = keyword "count" ∷ sign LeftParen ∷ sign Star ∷ si
 symbols count_distinct_call =
     keyword "count" ∷ sign LeftParen ∷ keyword "distinct" ∷ rule or ∷ sign RightParen ∷ []
 symbols trim_side_call =
-    keyword "trim" ∷ sign LeftParen ∷ rule side ∷ rule or_option ∷ keyword "from" ∷ rule or ∷
-    sign RightParen ∷ []
+    keyword "trim" ∷ sign LeftParen ∷ rule side ∷ rule or_option ∷ keyword "from" ∷
+    rule or ∷ sign RightParen ∷ []
 symbols trim_call =
-    keyword "trim" ∷ sign LeftParen ∷ rule or ∷ keyword "from" ∷ rule or ∷ sign RightParen ∷ []
-symbols substring_call =
-    keyword "substring" ∷ sign LeftParen ∷ rule or ∷ keyword "from" ∷ rule or ∷ rule length_option ∷
+    keyword "trim" ∷ sign LeftParen ∷ rule or ∷ keyword "from" ∷ rule or ∷
     sign RightParen ∷ []
+symbols substring_call =
+    keyword "substring" ∷ sign LeftParen ∷ rule or ∷ keyword "from" ∷ rule or ∷
+    rule length_option ∷ sign RightParen ∷ []
 symbols weight_string_call =
-    keyword "weight_string" ∷ sign LeftParen ∷ rule or ∷ rule cut_option ∷ sign RightParen ∷ []
+    keyword "weight_string" ∷ sign LeftParen ∷ rule or ∷ rule cut_option ∷
+    sign RightParen ∷ []
 symbols empty_call = one called ∷ sign LeftParen ∷ sign RightParen ∷ []
 symbols single_call = one called_otherwise ∷ sign LeftParen ∷ rule or ∷ sign RightParen ∷ []
 symbols many_call =
@@ -247,7 +251,8 @@ symbols no_length = []
 symbols with_length = keyword "for" ∷ rule or ∷ []
 -- [AS (CHAR | BINARY) ( Int )]
 symbols no_cut = []
-symbols char_cut = keyword "as" ∷ keyword "char" ∷ sign LeftParen ∷ one int ∷ sign RightParen ∷ []
+symbols char_cut =
+    keyword "as" ∷ keyword "char" ∷ sign LeftParen ∷ one int ∷ sign RightParen ∷ []
 symbols binary_cut =
     keyword "as" ∷ keyword "binary" ∷ sign LeftParen ∷ one int ∷ sign RightParen ∷ []
 

@@ -11,5 +11,6 @@ ghost use Rattle.mc_sql.specs.Completions.{completions};
 /// The law: the symbols that are left at any place inside a rule read their completion.
 pub fn places_are_completed()
     ensures { (symbols : List (Symbol Class Rule)) → (reading : Forest Alternative Token)
-        × (Fits statements symbols reading × (tokens_of reading ≡ completion completions symbols)) }
+        × (Fits statements symbols reading
+        × (tokens_of reading ≡ completion completions symbols)) }
 {}

@@ -6,6 +6,7 @@ ghost use Rattle.mc_sql.specs.Statements.{statements};
 
 /// The law: a list of tokens has at most one reading as a statement.
 pub fn statements_read_once()
-    ensures { (tokens : List Token) (f h : Forest Alternative Token) → IsReading statements statement tokens f
+    ensures { (tokens : List Token) (f h : Forest Alternative Token)
+        → IsReading statements statement tokens f
         → IsReading statements statement tokens h → f ≡ h }
 {}

@@ -1,14 +1,13 @@
 -- Neither a blank nor a token crosses the end of its statement.
-use Rattle.std.proofs.Common.{◌≡◌, ◌≢◌, ℕ, ◌+◌, ◌-◌, ◌<◌, ◌≤◌, ◌==◌, ◌||◌, not, Bool, true, false, inl, inr, List, [], ◌∷◌, ◌++◌, Option, Some, None, length, drop, suc, zero, refl, ap, sym, subst, append-nil, append_assoc, length-append, ◌∙◌, arith}
+use Rattle.std.proofs.Common.{◌≡◌, ◌≢◌, ℕ, ◌+◌, ◌==◌, ◌||◌, not, Bool, true, false, inl, inr, List, [], ◌∷◌, ◌++◌, Option, Some, None, length, suc, refl, ap, sym, subst, append-nil, append_assoc, length-append, ◌∙◌, arith}
 use Rattle.std.specs.Char.{is_ascii_digit, is_ascii_hexdigit}
-use Rattle.std.specs.List.{AllByRecursion}
 use Rattle.std.proofs.lemmas.Bool.{eqb-true, eqb-false}
 use Rattle.std.proofs.lemmas.Bool.Decides.{nat_tests}
 use Rattle.mc_token.specs.Bytes.{is_space, begins_word, continues_word, is_letter_n, is_letter_x, number_sign, dash, slash, semicolon, single_quote, double_quote, backquote, digit_zero, small_x, backslash}
 use Rattle.mc_token.specs.Comments.{OpensLine}
 use Rattle.mc_token.specs.Cover.{AreBlanks, IsToken, Cover, EndsWithin}
 use Rattle.mc_token.specs.Cut.{Takes}
-use Rattle.mc_token.specs.Elements.{opens_line, quote_end, single, closed, element_of, elements, elements_behind}
+use Rattle.mc_token.specs.Elements.{opens_line, quote_end, closed, element_of, elements, elements_behind}
 use Rattle.mc_token.specs.Marks.{mark_text}
 use Rattle.mc_token.specs.Spelled.{AreAll, IsSpelled, IsName}
 use Rattle.mc_token.specs.Statements.{is_end, statement_len}
@@ -25,7 +24,7 @@ use Rattle.mc_token.specs.declared.spelling.Shape.{Shape}
 use Rattle.mc_token.specs.declared.spelling.Shape.TheVariants.{Word, Name, Int, Str, National, HexString, HexNumber, Sym}
 use Rattle.mc_token.proofs.CutElements.{not_backslash}
 use Rattle.mc_token.proofs.CutOpenings.{element_with, element_string, line_said, refuted}
-use Rattle.mc_token.proofs.CutStrings.{StringCloses, string_closes, string_is, plain_passed, pair_passed, with_plain}
+use Rattle.mc_token.proofs.CutStrings.{string_closes, string_is, plain_passed, pair_passed, with_plain}
 use Rattle.mc_token.proofs.CutWhole.{front_element, taken_front}
 
 -- How many bytes are before the end of the statement that these bytes go on with.

@@ -1,5 +1,6 @@
 -- Tokens as spans that cover all bytes but spaces and comments: MySQL 8.0 manual, 9.1, 9.2 and 9.7.
-use Rattle.std.specs.Prelude.{◌≡◌, ℕ, ◌+◌, ◌<◌, ◌≤◌, true, List, [], ◌∷◌, ◌++◌, length}
+use Rattle.std.specs.Prelude.{◌≡◌, ℕ, ◌+◌, ◌<◌, ◌≤◌, true, List, []}
+use Rattle.std.specs.Prelude.{◌∷◌, ◌++◌, length}
 use Rattle.mc_token.specs.Comments.{OpensLine}
 use Rattle.mc_token.specs.Cut.{Takes}
 use Rattle.mc_token.specs.Spelled.{IsSpelled}
@@ -12,7 +13,8 @@ use Rattle.mc_token.specs.declared.spelling.Shape.{Shape}
 
 -- Spaces and closed comments alone stand from a place of the script, where these bytes begin, up to
 -- another, where those begin.
-abbrev pub AreBlanks : List Element → (from : ℕ) → List ℕ → (to : ℕ) → List ℕ → Type 0
+abbrev pub AreBlanks : List Element → (from : ℕ) → List ℕ → (to : ℕ) → List ℕ
+    → Type 0
 AreBlanks [] from bytes to behind = (from ≡ to) × (bytes ≡ behind)
 AreBlanks (blank ∷ blanks) from bytes to behind =
     (left : List ℕ) × (is_blank blank.kind ≡ true) × Takes bytes blank left

@@ -1,5 +1,6 @@
 -- A script as its elements, one behind the other: MySQL 8.0 manual, 9.1.1 and 9.7.
-use Rattle.std.specs.Prelude.{◌≡◌, ◌≢◌, ◌⊎◌, ℕ, true, false, List, [], ◌∷◌, ◌++◌, length}
+use Rattle.std.specs.Prelude.{◌≡◌, ◌≢◌, ◌⊎◌, ℕ, true, false, List, []}
+use Rattle.std.specs.Prelude.{◌∷◌, ◌++◌, length}
 use Rattle.mc_token.specs.Bytes.{is_space, semicolon}
 use Rattle.mc_token.specs.Comments.{OpensLine, OpensBlock, IsLineComment, IsBlockComment}
 use Rattle.mc_token.specs.Strings.{OpensString, IsString}
@@ -10,7 +11,8 @@ use Rattle.mc_token.specs.declared.element.Kind.TheVariants.{Semicolon, Other}
 
 -- No such part begins the bytes.
 abbrev pub HasNo : ((taken behind : List ℕ) → Type 0) → List ℕ → Type 0
-HasNo IsPart bytes = (taken behind : List ℕ) → bytes ≡ taken ++ behind → IsPart taken behind → ⊥
+HasNo IsPart bytes =
+    (taken behind : List ℕ) → bytes ≡ taken ++ behind → IsPart taken behind → ⊥
 
 -- A string or a comment opens these bytes, and isn't closed in them.
 abbrev pub IsUnclosed : List ℕ → Type 0
@@ -20,7 +22,8 @@ IsUnclosed bytes =
 -- The first of these bytes begins nothing: no space, no semicolon, no comment, no string.
 abbrev pub BeginsNothing : ℕ → List ℕ → Type 0
 BeginsNothing byte bytes =
-    (is_space byte ≡ false) × (byte ≢ semicolon) × (OpensLine bytes → ⊥) × (OpensBlock bytes → ⊥)
+    (is_space byte ≡ false) × (byte ≢ semicolon) × (OpensLine bytes → ⊥)
+    × (OpensBlock bytes → ⊥)
     × (OpensString bytes → ⊥)
 
 -- The bytes taken are an element of this kind, where these are behind them.

@@ -1,5 +1,6 @@
 -- The elements of a script, each as long as it can be: MySQL 8.0 manual, 9.1.1 and 9.7.
-use Rattle.std.specs.Prelude.{ℕ, ◌+◌, ◌-◌, Bool, false, ◌||◌, ◌&&◌, not, ◌==◌, List, [], ◌∷◌}
+use Rattle.std.specs.Prelude.{ℕ, ◌+◌, ◌-◌, Bool, false, ◌||◌, ◌&&◌, not, ◌==◌}
+use Rattle.std.specs.Prelude.{List, [], ◌∷◌}
 use Rattle.std.specs.Prelude.{Option, Some, None, unwrap_or, zero, suc, length, drop, slice_index}
 use Rattle.std.specs.Prelude.{position, if◌then◌else◌}
 use Rattle.mc_token.specs.Bytes.{is_space, line_feed, exclamation, double_quote, number_sign}

@@ -1,5 +1,6 @@
 -- The digits of hexadecimal literals, and their bytes: MySQL 8.0 manual, 9.1.4.
-use Rattle.std.specs.Prelude.{ℕ, ◌+◌, ◌*◌, ◌/◌, ◌%◌, ◌==◌, not, List, [], ◌∷◌, unwrap_or, length}
+use Rattle.std.specs.Prelude.{ℕ, ◌+◌, ◌*◌, ◌/◌, ◌%◌, ◌==◌, not, List, []}
+use Rattle.std.specs.Prelude.{◌∷◌, unwrap_or, length}
 use Rattle.std.specs.Prelude.{map, position, if◌then◌else◌}
 use Rattle.std.specs.Char.{is_ascii_hexdigit}
 use Rattle.std.specs.List.{flat_map}
@@ -18,7 +19,8 @@ digit_value byte = unwrap_or (hex_digit byte) 0
 unfoldable pub paired : List ℕ → List ℕ
 paired [] = []
 paired (digit ∷ []) = []
-paired (sixteens ∷ ones ∷ digits) = (16 * digit_value sixteens + digit_value ones) ∷ paired digits
+paired (sixteens ∷ ones ∷ digits) =
+    (16 * digit_value sixteens + digit_value ones) ∷ paired digits
 
 -- The bytes that digits stand for: an odd number of them counts as if a 0 stood before it.
 abbrev pub bytes_of_digits : List ℕ → List ℕ

@@ -1,6 +1,7 @@
 -- What a token says, by the bytes that spell it: MySQL 8.0 manual, 9.1.1 (table 9.1), 9.1.2, 9.1.4,
 -- 9.2 and 10.3.7.
-use Rattle.std.specs.Prelude.{ℕ, ◌-◌, ◌||◌, ◌&&◌, ◌==◌, List, [], ◌∷◌, ◌++◌, map, drop, length}
+use Rattle.std.specs.Prelude.{ℕ, ◌-◌, ◌||◌, ◌&&◌, ◌==◌, List, [], ◌∷◌}
+use Rattle.std.specs.Prelude.{◌++◌, map, drop, length}
 use Rattle.std.specs.Prelude.{slice_index, slice_range, if◌then◌else◌}
 use Rattle.std.specs.Char.{to_ascii_lowercase}
 use Rattle.mc_token.specs.Bytes.{nul, backspace, tab, line_feed, carriage_return, substitute}

@@ -1,6 +1,7 @@
 -- The marks: their spellings, and the longest one that begins some bytes. MySQL 8.0 manual, 9.2,
 -- 12.4.2 and 12.6.1.
-use Rattle.std.specs.Prelude.{◌≡◌, ℕ, ◌==◌, ◌≤◌, List, ◌++◌, Option, Some, None, codes, length}
+use Rattle.std.specs.Prelude.{◌≡◌, ℕ, ◌==◌, ◌≤◌, List, ◌++◌, Option, Some}
+use Rattle.std.specs.Prelude.{None, codes, length}
 use Rattle.std.specs.Prelude.{drop, slice_index, if◌then◌else◌}
 use Rattle.mc_token.specs.Bytes.{exclamation, percent, left_paren, right_paren, star, plus, comma}
 use Rattle.mc_token.specs.Bytes.{dash, dot, less, equals, greater}

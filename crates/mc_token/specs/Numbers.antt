@@ -1,5 +1,6 @@
 -- Whole numbers: MySQL 8.0 manual, 9.1.2.
-use Rattle.std.specs.Prelude.{ℕ, ℤ, pos, not, nat_le, List, Option, Some, None, unwrap_or, length}
+use Rattle.std.specs.Prelude.{ℕ, ℤ, pos, not, nat_le, List, Option, Some, None, unwrap_or}
+use Rattle.std.specs.Prelude.{length}
 use Rattle.std.specs.Prelude.{position, if◌then◌else◌}
 use Rattle.std.specs.Char.{is_ascii_digit}
 use Rattle.std.specs.Str.Parse.{digits_value}

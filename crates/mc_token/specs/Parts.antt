@@ -1,5 +1,6 @@
 -- The statements of a script as the parts between its semicolons: MySQL 8.0 manual, 4.5.1.
-use Rattle.std.specs.Prelude.{ℕ, ◌+◌, not, List, [], ◌∷◌, ◌++◌, take_while, if◌then◌else◌}
+use Rattle.std.specs.Prelude.{ℕ, ◌+◌, not, List, [], ◌∷◌, ◌++◌, take_while}
+use Rattle.std.specs.Prelude.{if◌then◌else◌}
 use Rattle.std.specs.List.{list_any, slice_split}
 use Rattle.mc_base.specs.declared.span.Span.{Span}
 use Rattle.mc_token.specs.Statements.{is_content, is_end}
@@ -29,4 +30,5 @@ statement_of at part =
 -- byte.
 abbrev pub statements_of : ℕ → List (List Element) → List Span
 statements_of at [] = []
-statements_of at (part ∷ parts) = statement_of at part ++ statements_of (at + len_of part + 1) parts
+statements_of at (part ∷ parts) =
+    statement_of at part ++ statements_of (at + len_of part + 1) parts

@@ -1,5 +1,6 @@
 -- What a piece of a statement says of its tokens.
-use Rattle.std.specs.Prelude.{◌≡◌, ℕ, ◌+◌, ◌<◌, ◌≤◌, List, [], ◌∷◌, drop, Err}
+use Rattle.std.specs.Prelude.{◌≡◌, ℕ, ◌+◌, ◌<◌, ◌≤◌, List, [], ◌∷◌}
+use Rattle.std.specs.Prelude.{drop, Err}
 use Rattle.mc_token.specs.Spellings.{least_len}
 use Rattle.mc_token.specs.Tokens.{tokens_in, token_of, with_front}
 use Rattle.mc_token.specs.declared.lexeme.LexFault.TheVariants.{NoToken}

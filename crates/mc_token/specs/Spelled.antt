@@ -1,5 +1,6 @@
 -- How each kind of token is spelled: MySQL 8.0 manual, 9.1.1, 9.1.4, 9.2 and 10.3.7.
-use Rattle.std.specs.Prelude.{◌≡◌, ◌≢◌, ℕ, ℤ, ◌%◌, ◌≤◌, Bool, true, false, ◌||◌, List, [], ◌∷◌}
+use Rattle.std.specs.Prelude.{◌≡◌, ◌≢◌, ℕ, ℤ, ◌%◌, ◌≤◌, Bool, true, false}
+use Rattle.std.specs.Prelude.{◌||◌, List, [], ◌∷◌}
 use Rattle.std.specs.Prelude.{◌++◌, Some, length}
 use Rattle.std.specs.Char.{is_ascii_digit, is_ascii_hexdigit}
 use Rattle.std.specs.List.{AllByRecursion}
@@ -30,7 +31,8 @@ OpensPrefixed bytes =
 -- A word: a letter or `_` that opens no literal, and all letters, digits, `_` and `$` behind it.
 abbrev pub IsWord : (taken behind : List ℕ) → Type 0
 IsWord taken behind =
-    (first : ℕ) × (others : List ℕ) × (taken ≡ first ∷ others) × (begins_word first ≡ true)
+    (first : ℕ) × (others : List ℕ) × (taken ≡ first ∷ others)
+    × (begins_word first ≡ true)
     × AreAll continues_word others × EndOrNo continues_word behind
     × (OpensPrefixed (taken ++ behind) → ⊥)
 
@@ -42,7 +44,8 @@ name_limit = 64
 abbrev pub IsName : (taken : List ℕ) → Type 0
 IsName taken =
     (first : ℕ) × (others : List ℕ)
-    × (taken ≡ backquote ∷ first ∷ others ++ backquote ∷ []) × (is_ascii_digit first ≡ false)
+    × (taken ≡ backquote ∷ first ∷ others ++ backquote ∷ [])
+    × (is_ascii_digit first ≡ false)
     × AreAll continues_word (first ∷ others) × (length (first ∷ others) ≤ name_limit)
 
 -- A whole number: digits that write it, and no letter, digit, `_` or `$` is directly behind them.

@@ -1,6 +1,7 @@
 -- The spellings of the tokens, the longest one at a place: MySQL 8.0 manual, 9.1.1, 9.1.4, 9.2 and
 -- 10.3.7.
-use Rattle.std.specs.Prelude.{ℕ, ◌+◌, ◌%◌, Bool, ◌||◌, ◌&&◌, not, ◌==◌, nat_lt, nat_le, List, ◌∷◌}
+use Rattle.std.specs.Prelude.{ℕ, ◌+◌, ◌%◌, Bool, ◌||◌, ◌&&◌, not, ◌==◌}
+use Rattle.std.specs.Prelude.{nat_lt, nat_le, List, ◌∷◌}
 use Rattle.std.specs.Prelude.{Option, Some, None, unwrap_or, length, take, drop, slice_index}
 use Rattle.std.specs.Prelude.{position, if◌then◌else◌, option_map}
 use Rattle.std.specs.Char.{is_ascii_digit}

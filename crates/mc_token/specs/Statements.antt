@@ -1,5 +1,6 @@
 -- The statements of a script: the parts between its semicolons with more than spaces and comments.
-use Rattle.std.specs.Prelude.{ℕ, ◌+◌, Bool, true, false, not, List, [], ◌∷◌, drop, if◌then◌else◌}
+use Rattle.std.specs.Prelude.{ℕ, ◌+◌, Bool, true, false, not, List, [], ◌∷◌, drop}
+use Rattle.std.specs.Prelude.{if◌then◌else◌}
 use Rattle.mc_base.specs.declared.span.Span.{Span}
 use Rattle.mc_token.specs.Elements.{elements}
 use Rattle.mc_token.specs.declared.element.Element.{Element}

@@ -9,7 +9,8 @@ IsQuote byte = (byte ≡ single_quote) ⊎ (byte ≡ double_quote)
 
 -- The bytes begin with a quote.
 abbrev pub OpensString : List ℕ → Type 0
-OpensString bytes = (quote : ℕ) × (rest : List ℕ) × IsQuote quote × (bytes ≡ quote ∷ rest)
+OpensString bytes =
+    (quote : ℕ) × (rest : List ℕ) × IsQuote quote × (bytes ≡ quote ∷ rest)
 
 -- The byte stands for itself in such quotes.
 abbrev pub IsPlain : (quote byte : ℕ) → Type 0

@@ -1,5 +1,6 @@
 -- The tokens of a statement, or its first fault.
-use Rattle.std.specs.Prelude.{◌≡◌, ℕ, ◌+◌, ◌-◌, Bool, true, false, List, [], ◌∷◌, ◌++◌, Option}
+use Rattle.std.specs.Prelude.{◌≡◌, ℕ, ◌+◌, ◌-◌, Bool, true, false, List, []}
+use Rattle.std.specs.Prelude.{◌∷◌, ◌++◌, Option}
 use Rattle.std.specs.Prelude.{Some, None, Result, Ok, Err, zero, suc, take, drop, length, nat_le}
 use Rattle.std.specs.Prelude.{if◌then◌else◌}
 use Rattle.mc_base.specs.declared.span.Span.{Span}

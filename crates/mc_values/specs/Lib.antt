@@ -1,2 +1,4 @@
 pub mod Values
 pub mod Shown
+pub mod Hexadecimal
+pub mod Conversion

@@ -1,5 +1,6 @@
 -- Strings among values: texts of their sets, and how long they may be.
-use Rattle.std.specs.Prelude.{ℕ, ◌≤◌, List, Option, Some, None, nat_le, length, if◌then◌else◌}
+use Rattle.std.specs.Prelude.{ℕ, ◌≤◌, List, Option, Some, None, nat_le, length}
+use Rattle.std.specs.Prelude.{if◌then◌else◌}
 use Rattle.mc_charset.specs.Chars.{IsWellFormed}
 use Rattle.mc_values.specs.declared.value.Value.{Value}
 use Rattle.mc_values.specs.declared.value.Value.TheVariants.{Null, Int, Str}

@@ -9,7 +9,7 @@ use Rattle.mc_base.specs.Results.{result_and_then}
 use Rattle.mc_base.specs.declared.file.FileFault.{FileFault}
 use Rattle.mc_base.specs.declared.file.FileFault.TheVariants.{Refused, Fault, NoMemory as OutOfMemory}
 use Rattle.mc_base.specs.declared.refusal.FileRefusal.{FileRefusal}
-use Rattle.mc_book.specs.BookOutcome.{IsBuilt, has_table}
+use Rattle.mc_book.specs.BookOutcome.{IsBuilt, is_built_collation}
 use Rattle.mc_catalog.specs.BuiltIn.{plain}
 use Rattle.mc_catalog.specs.Limits.{built_in_count}
 use Rattle.mc_catalog.specs.Outcome.{catalog_outcome}
@@ -29,7 +29,7 @@ no_tables (table ∷ tables) false h = refl
 pub built_then : (catalog : Catalog) (empty : Bool) → All IsBuilt (drop 9 catalog.collations) → (IsTrue empty ↔ (catalog.tables ≡ [])) → empty ≡ is_built catalog
 built_then catalog empty h e =
     no_tables catalog.tables empty e
-    ∙ ap (λ b. b && has_no_table catalog.tables) (sym (list_all-from_AllPass (λ (declared : CollDecl). has_table declared.kind) (drop 9 catalog.collations) h))
+    ∙ ap (λ b. b && has_no_table catalog.tables) (sym (list_all-from_AllPass (λ (declared : CollDecl). is_built_collation declared) (drop 9 catalog.collations) h))
 
 -- What comes of what the reader gives.
 abbrev built_of : List ℕ → Result Catalog CatalogFault → Result Catalog FileRefusal
@@ -70,7 +70,7 @@ built_from name read catalog e = of (is_built read) refl e
     of : (b : Bool) → is_built read ≡ b → (if b then Ok read else Err (file_refusal name (codes "NotBuilt") 0)) ≡ Ok catalog
         → AllBuilt catalog
     of true b e = IfOk-at_ok AllBuilt e
-        (AllPass-from_list_all (λ (declared : CollDecl). has_table declared.kind) (drop built_in_count read.collations) (left_true _ _ b))
+        (AllPass-from_list_all (λ (declared : CollDecl). is_built_collation declared) (drop built_in_count read.collations) (left_true _ _ b))
     of false b e = cc
 
 built_read : (name : List ℕ) (read : Result Catalog CatalogFault) (catalog : Catalog) → built_of name read ≡ Ok catalog

@@ -6,7 +6,10 @@ pub mod Texts
 pub mod OneAnswer
 pub mod OwnText
 pub mod Told
+pub mod ItemSteps
+pub mod ReadSteps
 pub mod RunSteps
 pub mod ValueSteps
+pub mod StandardAnswers
 pub mod StandardFacts
 pub mod WantedSteps

@@ -1,116 +1,55 @@
--- What the tokens of literals and queries keep: UTF-8 texts, and places in order.
-use Rattle.std.proofs.Common.{◌≡◌, ℕ, zero, suc, ◌≤◌, ◌<◌, Bool, true, false, cond, List, [], ◌∷◌, Option, Some, None, length, take, drop, sym, ap, subst, arith}
-use Rattle.std.specs.Prelude.{IsUtf8, IfSome, IfOk, Result, Ok, Err, codes, option_map}
-use Rattle.mc_base.specs.declared.no_memory.NoMemory.{NoMemory as Lack}
-use Rattle.mc_base.specs.declared.span.Span.{Span}
-use Rattle.std.specs.List.{prefix_len, take_while}
-use Rattle.std.proofs.lemmas.Option.{option_and_then_some}
-use Rattle.std.proofs.lemmas.Str.{IsUtf8-append, IsUtf8-nil}
-use Rattle.mc_token.specs.declared.lexeme.Token.{Token}
-use Rattle.mc_token.specs.declared.lexeme.Lexeme.{Lexeme}
-use Rattle.mc_token.specs.declared.lexeme.Lexeme.TheVariants.{Word, Name, Int, Str, National, Hex, Sym}
-use Rattle.mc_token.specs.TokenLaws.{AreInOrder, HaveUtf8Texts, HasUtf8Text}
-use Rattle.mycoll.specs.Literals.{is_string, string_text, joined_text, beside}
-use Rattle.mycoll.specs.Queries.{after, is_word, last_end, header_of, form_of, query_of, IsWithin, IsRead, IsOfScript}
-use Rattle.mycoll.specs.declared.query.Form.{Form}
-use Rattle.mycoll.specs.declared.query.Query.{Query}
+-- The strings of a tree that is UTF-8 are.
+use Rattle.std.proofs.Common.{◌≡◌, ℕ, zero, suc, List, [], ◌∷◌, refl, subst, ap, ◌∙◌}
+use Rattle.std.specs.List.{AllByRecursion}
+use Rattle.mc_ast.specs.Texts.{Layer, HasUtf8Layer, HasUtf8To, HasUtf8}
+use Rattle.mc_ast.specs.declared.expr.Expr.{Expr}
+use Rattle.mc_ast.specs.declared.expr.Form.TheOpen.{Str, National, Collate, Compare, Convert, Call}
+use Rattle.mc_ast.specs.declared.expr.Form.TheVariants as form
+use Rattle.mc_ast.specs.declared.expr.Form.TheViews.{out-Form}
+use Rattle.mc_ast.specs.declared.operators.CmpOp.{CmpOp}
+use Rattle.mycoll.specs.Operands.{operand_string}
+use Rattle.mycoll.specs.Strings.{IsUtf8Layer, HasUtf8Characters}
 
--- The text of a token is UTF-8: that of a string, or none.
-text_of : (kind : Lexeme) → HasUtf8Text kind → IsUtf8 (elim kind as (λ _. List ℕ) [ Str text ↦ text | _ ↦ [] ])
-text_of (Str text) h = h
-text_of (Word word) h = IsUtf8-nil
-text_of (Name name) h = IsUtf8-nil
-text_of (Int n) h = IsUtf8-nil
-text_of (National text) h = IsUtf8-nil
-text_of (Hex text) h = IsUtf8-nil
-text_of (Sym symbol) h = IsUtf8-nil
+-- At each of the levels down, the parts are.
+laid_open : (expr : Expr) (layer : Layer) → out-Form expr.form ≡ layer → HasUtf8 expr → (depth : ℕ)
+    → HasUtf8Layer (HasUtf8To depth) layer
+laid_open expr layer e h depth = subst (λ (z : Layer). HasUtf8Layer (HasUtf8To depth) z) e (h (suc depth))
 
-joined_utf8 : (ts : List Token) → HaveUtf8Texts ts → IsUtf8 (joined_text ts)
-joined_utf8 [] h = IsUtf8-nil
-joined_utf8 (t ∷ ts) h = IsUtf8-append (string_text t) (joined_text ts) (text_of t.kind h.0) (joined_utf8 ts h.1)
+own_layer : (layer : Layer) → HasUtf8Layer (HasUtf8To zero) layer → IsUtf8Layer layer
+own_layer (Str text) h = h
+own_layer (National text) h = h
+own_layer _ h = tt
 
-take_utf8 : (n : ℕ) (ts : List Token) → HaveUtf8Texts ts → HaveUtf8Texts (take n ts)
-take_utf8 zero ts h = tt
-take_utf8 (suc n) [] h = tt
-take_utf8 (suc n) (t ∷ ts) h = (h.0, take_utf8 n ts h.1)
+-- The text of a string is.
+pub own_text : (expr : Expr) → HasUtf8 expr → HasUtf8Characters expr
+own_text expr h = own_layer (out-Form expr.form) (h 1)
 
--- Tokens behind some of them keep their texts.
-pub drop_utf8 : (n : ℕ) (ts : List Token) → HaveUtf8Texts ts → HaveUtf8Texts (drop n ts)
-drop_utf8 zero ts h = h
-drop_utf8 (suc n) [] h = tt
-drop_utf8 (suc n) (t ∷ ts) h = drop_utf8 n ts h.1
+collated_inner : (expr inner : Expr) (name : List ℕ) → out-Form expr.form ≡ Collate inner name → HasUtf8 expr → HasUtf8 inner
+collated_inner expr inner name e h = λ depth. laid_open expr (Collate inner name) e h depth
 
--- A text with those of the strings behind it.
-pub beside_utf8 : (text : List ℕ) (ts : List Token) → IsUtf8 text → HaveUtf8Texts ts → IsUtf8 (beside text ts)
-beside_utf8 text ts t h =
-    IsUtf8-append text (joined_text (take_while is_string ts)) t (joined_utf8 (take_while is_string ts) (take_utf8 (prefix_len is_string ts) ts h))
+-- So are what is converted, the operands of a comparison, and the arguments of a call.
+pub converted_inner : (expr inner : Expr) (name : List ℕ) → expr.form ≡ form.Convert inner name → HasUtf8 expr → HasUtf8 inner
+converted_inner expr inner name e h = λ depth. laid_open expr (Convert inner name) (ap out-Form e ∙ form.outs-Convert inner name) h depth
 
--- What stands behind a token keeps its texts.
-pub after_utf8 : (is : Token → Bool) (ts behind : List Token) → after is ts ≡ Some behind → HaveUtf8Texts ts → HaveUtf8Texts behind
-after_utf8 is [] behind e h = cc
-after_utf8 is (t ∷ ts) behind e h = chosen (is t) e where
-  chosen : (b : Bool) → cond b (Some ts) None ≡ Some behind → HaveUtf8Texts behind
-  chosen true e = let same : ts ≡ behind = cc in subst HaveUtf8Texts same h.1
-  chosen false e = cc
+pub compared_left : (expr : Expr) (op : CmpOp) (left right : Expr) → expr.form ≡ form.Compare op left right → HasUtf8 expr → HasUtf8 left
+compared_left expr op left right e h = λ depth. (laid_open expr (Compare op left right) (ap out-Form e ∙ form.outs-Compare op left right) h depth).0
 
-last_end-in_order : (from to : ℕ) (t : Token) (ts : List Token) → AreInOrder from to (t ∷ ts)
-    → (t.span.start ≤ last_end t ts) × (last_end t ts ≤ to)
-last_end-in_order from to t [] h = let a : t.span.start < t.span.end = h.1 in (omega arith, h.2)
-last_end-in_order from to t (u ∷ us) h =
-    let k = last_end-in_order t.span.end to u us h.2 in
-    let a : t.span.start < t.span.end = h.1 in
-    let b : t.span.end ≤ u.span.start = h.2.0 in
-    let d : u.span.start ≤ last_end u us = k.0 in
-    (omega arith, k.1)
+pub compared_right : (expr : Expr) (op : CmpOp) (left right : Expr) → expr.form ≡ form.Compare op left right → HasUtf8 expr → HasUtf8 right
+compared_right expr op left right e h = λ depth. (laid_open expr (Compare op left right) (ap out-Form e ∙ form.outs-Compare op left right) h depth).1
 
--- The bytes of tokens in order lie within their places.
-header_in_order : (script : List ℕ) (from to : ℕ) (ts : List Token) → to ≤ length script → AreInOrder from to ts → IsWithin script (header_of ts)
-header_in_order script from to [] e h = record { in_order = omega arith; ends = omega arith }
-header_in_order script from to (t ∷ ts) e h =
-    let k = last_end-in_order from to t ts h in
-    record { in_order = k.0; ends = omega (arith, k.1) }
+each_arg : (args : List Expr) → ((depth : ℕ) → AllByRecursion (λ e. HasUtf8To depth e.form) args) → AllByRecursion HasUtf8 args
+each_arg [] h = tt
+each_arg (arg ∷ args) h = ((λ depth. (h depth).0), each_arg args (λ depth. (h depth).1))
 
-after_in_order : (is : Token → Bool) (from to : ℕ) (ts behind : List Token) → after is ts ≡ Some behind → AreInOrder from to ts
-    → (mid : ℕ) × AreInOrder mid to behind
-after_in_order is from to [] behind e h = cc
-after_in_order is from to (t ∷ ts) behind e h = chosen (is t) e where
-  chosen : (b : Bool) → cond b (Some ts) None ≡ Some behind → (mid : ℕ) × AreInOrder mid to behind
-  chosen true e = let same : ts ≡ behind = cc in (t.span.end, subst (AreInOrder t.span.end to) same h.2)
-  chosen false e = cc
+pub call_args : (expr : Expr) (name : List ℕ) (args : List Expr) → expr.form ≡ form.Call name args → HasUtf8 expr → AllByRecursion HasUtf8 args
+call_args expr name args e h = each_arg args (λ depth. laid_open expr (Call name args) (ap out-Form e ∙ form.outs-Call name args) h depth)
 
--- The text of a string at the front, and the texts behind it.
-pub string_utf8 : (ts : List Token) (t : Token) (behind : List Token) (text : List ℕ) → ts ≡ t ∷ behind → t.kind ≡ Str text
-    → HaveUtf8Texts ts → IsUtf8 (beside text behind)
-string_utf8 ts t behind text e k h =
-    let here : HaveUtf8Texts (t ∷ behind) = subst HaveUtf8Texts e h in
-    beside_utf8 text behind (subst HasUtf8Text k here.0) here.1
+-- What stands under COLLATE is.
+pub operand_text : (operand : Expr) → HasUtf8 operand → HasUtf8Characters (operand_string operand)
+operand_text operand h = of (out-Form operand.form) refl
+  where
+    of : (layer : Layer) → out-Form operand.form ≡ layer → HasUtf8Characters (operand_string operand)
+    of (Collate inner name) e = rw (e, operand_string) (own_text inner (collated_inner operand inner name e h))
+    of _ e = rw (e, operand_string) (own_text operand h)
 
-pub national_utf8 : (ts : List Token) (t : Token) (behind : List Token) (text : List ℕ) → ts ≡ t ∷ behind → t.kind ≡ National text
-    → HaveUtf8Texts ts → IsUtf8 (beside text behind)
-national_utf8 ts t behind text e k h =
-    let here : HaveUtf8Texts (t ∷ behind) = subst HaveUtf8Texts e h in
-    beside_utf8 text behind (subst HasUtf8Text k here.0) here.1
-
-headed : (o : Option Form) (header : Span) (query : Query) → option_map (λ (form : Form). record { form = form; header = header }) o ≡ Some query
-    → header ≡ query.header
-headed (Some form) header query e = let same : record { form = form; header = header } ≡ query = cc in ap (λ (q : Query). q.header) same
-headed None header query e = cc
-
--- The header of a query lies within the script.
-header_within : (script : List ℕ) (from to : ℕ) (ts : List Token) (query : Query) → to ≤ length script → AreInOrder from to ts
-    → query_of ts ≡ Some query → IsWithin script query.header
-unfolding query_of
-header_within script from to ts query e a h =
-    option_and_then_some _ (after (is_word (codes "select")) ts) query h (λ body behind asked.
-    let order = after_in_order (is_word (codes "select")) from to ts body behind a in
-    subst (IsWithin script) (headed (form_of body) (header_of body) query asked) (header_in_order script order.0 to body e order.1))
-
--- What is read from the tokens of a statement is of its script.
-pub of_script : (script : List ℕ) (from to : ℕ) (ts : List Token) (r : Result (Option Query) Lack) → to ≤ length script → AreInOrder from to ts
-    → IfOk r (λ o. o ≡ query_of ts) → IfOk r (λ o. IfSome o (λ query. IsRead query.form)) → IfOk r (λ o. IfSome o (IsOfScript script))
-of_script script from to ts (Err lack) e a h u = tt
-of_script script from to ts (Ok None) e a h u = tt
-of_script script from to ts (Ok (Some query)) e a h u = record { header = header_within script from to ts query e a (sym h); form = u }
-
--- What tokens behind others keep.
-pub ruleset kept = (after_utf8, drop_utf8)
+pub ruleset levels = (own_text, operand_text)

@@ -1,69 +1,73 @@
 -- What the statements of a script are answered with, one behind the other. Each is answered in the
 -- state that the ones before it left.
-use Rattle.std.specs.Prelude.{◌≡◌, ◌⊎◌, ℕ, Bool, true, false, List, [], ◌∷◌, Option, Some, None, Ok}
-use Rattle.std.specs.Prelude.{Err, slice_range, take}
+use Rattle.std.specs.Prelude.{◌≡◌, ℕ, Bool, true, false, List, [], ◌∷◌, Some, None, map}
+use Rattle.std.specs.Prelude.{Result, Ok, Err, slice_range, take}
 use Rattle.std.specs.List.{list_any, flat_map}
+use Rattle.mc_ast.specs.declared.statement.Item.{Item}
+use Rattle.mc_ast.specs.declared.statement.Statement.{Statement}
+use Rattle.mc_base.specs.Results.{result_and_then}
 use Rattle.mc_base.specs.declared.refusal.Refusal.{Refusal}
 use Rattle.mc_base.specs.declared.span.Span.{Span}
 use Rattle.mc_token.specs.Statements.{statements}
-use Rattle.mc_token.specs.Tokens.{tokens_of}
-use Rattle.mycoll.specs.Forms.{form_value}
-use Rattle.mycoll.specs.Messages.{no_reading}
+use Rattle.mycoll.specs.Built.{built}
+use Rattle.mycoll.specs.Forms.{expr_value}
+use Rattle.mycoll.specs.Messages.{not_built}
 use Rattle.mycoll.specs.Print.{said_text}
-use Rattle.mycoll.specs.Queries.{query_of}
-use Rattle.mycoll.specs.World.{World, State}
-use Rattle.mycoll.specs.declared.query.Query.{Query}
+use Rattle.mycoll.specs.Reading.{Reads}
+use Rattle.mycoll.specs.World.{World, State, connection_set}
 use Rattle.mycoll.specs.declared.said.Said.{Said}
 use Rattle.mycoll.specs.declared.said.Said.TheVariants.{Table, Refused}
 use Rattle.mycoll.specs.declared.said.Value.{Value}
 
--- The query that a statement asks, if it has tokens and they read as one.
-unfoldable pub reading_of : List ℕ → Span → Option Query
-reading_of script statement =
-    elim (tokens_of script statement) [ Ok tokens ↦ query_of tokens | Err fault ↦ None ]
+-- The header of an item: its alias, else the script's own bytes.
+abbrev pub header_of : List ℕ → Item → List ℕ
+header_of script item = elim item.alias [
+  | Some name ↦ name
+  | None ↦ slice_range script item.span.start item.span.end
+]
 
--- The statement reads as this query.
-abbrev pub Reads : List ℕ → Span → Query → Type 0
-Reads script statement query = reading_of script statement ≡ Some query
+-- A value, and those behind it, unless one of them is refused.
+abbrev pub with_value : Result (List Value) Refusal → Value → Result (List Value) Refusal
+with_value more value = result_and_then (λ values. Ok (value ∷ values)) more
 
--- The statement has no reading, and this is its refusal.
-abbrev pub IsSyntaxRefusal : List ℕ → Span → Refusal → Type 0
-IsSyntaxRefusal script statement refusal =
-    (reading_of script statement ≡ None) × (refusal ≡ no_reading statement.start)
+-- The values of items; or the refusal of the first that has one.
+unfoldable pub values_of : World → State → List Item → Result (List Value) Refusal
+values_of w s [] = Ok []
+values_of w s (item ∷ items) =
+    result_and_then (with_value (values_of w s items)) (expr_value w s item.expr)
 
--- One row of one value.
-abbrev pub one_cell : List ℕ → Value → Said
-one_cell header value = Table (record { header = header ∷ []; rows = (value ∷ []) ∷ [] })
+-- One row of these values.
+abbrev pub one_row : List (List ℕ) → List Value → Said
+one_row headers values = Table (record { header = headers; rows = values ∷ [] })
 
--- What a query is answered with: its refusal, else its value under the script's own bytes.
-unfoldable pub query_said : World → State → List ℕ → Query → Said
-query_said w s script query = elim (form_value w s query.form) [
-  | Ok value ↦ one_cell (slice_range script query.header.start query.header.end) value
+-- What items are answered with: a refusal, else one row under their headers.
+unfoldable pub items_said : World → State → List ℕ → List Item → Said
+items_said w s script items = elim (values_of w s items) [
+  | Ok values ↦ one_row (map (header_of script) items) values
   | Err refusal ↦ Refused refusal
 ]
 
--- A query is answered so, and leaves this state: as it was, since it changes nothing.
-abbrev pub IsSaid : World → State → List ℕ → Query → Said → State → Type 0
-IsSaid w before script query said after =
-    (said ≡ query_said w before script query) × (after ≡ before)
+-- What a tree is answered with, and the state that it leaves: the one that it finds.
+unfoldable pub tree_said : World → State → List ℕ → Statement → Said × State
+tree_said w s script tree = elim (built (connection_set w s) tree) [
+  | Some items ↦ (items_said w s script items, s)
+  | None ↦ (Refused not_built, s)
+]
 
--- A statement is refused for its syntax, and leaves the state as it was.
-abbrev pub IsRefusedRead : State → List ℕ → Span → Said → State → Type 0
-IsRefusedRead before script statement said after =
-    (refusal : Refusal) × IsSyntaxRefusal script statement refusal × (said ≡ Refused refusal)
-    × (after ≡ before)
+-- What a statement is answered with that reads so, and the state that it leaves. A refusal of its
+-- syntax leaves the state as it was.
+abbrev pub read_said : World → State → List ℕ → Result Statement Refusal → Said × State
+read_said w s script (Ok tree) = tree_said w s script tree
+read_said w s script (Err refusal) = (Refused refusal, s)
 
--- A statement reads as a query, which is answered so.
-abbrev pub IsReadAndSaid : World → State → List ℕ → Span → Said → State → Type 0
-IsReadAndSaid w before script statement said after =
-    (query : Query) × Reads script statement query × IsSaid w before script query said after
-
--- A statement is answered so in a state, and leaves this one: its syntax is refused, else what it
--- asks is answered. An answer is what is said; `Answer` is the table among what may be said.
-abbrev pub IsAnswer : World → State → List ℕ → Span → Said → State → Type 0
-IsAnswer w before script statement said after =
-    IsRefusedRead before script statement said after
-    ⊎ IsReadAndSaid w before script statement said after
+-- A statement is answered so in a state, and leaves this one: its syntax is refused, else its tree
+-- is answered. An answer is what is said; `Answer` is the table among what may be said.
+pub record IsAnswer (w : World) (before : State) (script : List ℕ) (statement : Span) (said : Said)
+    (after : State) : Type 0 where
+  pub read : Result Statement Refusal
+  pub reads : Reads script statement read
+  pub told : said ≡ (read_said w before script read).0
+  pub left : after ≡ (read_said w before script read).1
 
 -- Statements of a script are answered so, one behind the other, and leave this state. What a script
 -- costs will be summed along this.

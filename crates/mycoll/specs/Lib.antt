@@ -1,6 +1,8 @@
 pub mod Messages
-pub mod Literals
-pub mod Queries
+pub mod Strings
+pub mod Operands
+pub mod Built
+pub mod Reading
 pub mod Unanswered
 pub mod Values
 pub mod World

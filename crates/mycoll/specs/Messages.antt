@@ -5,9 +5,20 @@ use Rattle.mc_base.specs.declared.refusal.Refusal.{Refusal}
 use Rattle.mc_charset.specs.declared.charset.Charset.{Charset}
 use Rattle.mc_charset.specs.Names.{name_of}
 
--- No reading of the statement that starts at this byte.
+-- No statement goes on at this byte of the script.
 abbrev pub no_reading : ℕ → Refusal
 no_reading place = record { number = 9001; text = codes "no reading at byte " ++ decimal place }
+
+-- More than 64 levels at this byte of the script.
+abbrev pub too_deep : ℕ → Refusal
+too_deep place = record {
+  number = 9003;
+  text = codes "nested deeper than 64 at byte " ++ decimal place;
+}
+
+-- The statement has more tokens than it may have.
+abbrev pub too_many_tokens : Refusal
+too_many_tokens = record { number = 9004; text = codes "more than 2048 tokens" }
 
 -- The statement has a reading, and isn't answered yet.
 abbrev pub not_built : Refusal

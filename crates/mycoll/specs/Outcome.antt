@@ -7,7 +7,7 @@ use Rattle.std.specs.Str.Lossy.{utf8_valid_len}
 use Rattle.mc_base.specs.FileOutcome.{file_outcome, file_refusal}
 use Rattle.mc_base.specs.Results.{result_and_then}
 use Rattle.mc_base.specs.declared.refusal.FileRefusal.{FileRefusal}
-use Rattle.mc_book.specs.BookOutcome.{has_table, book_outcome}
+use Rattle.mc_book.specs.BookOutcome.{is_built_collation, book_outcome}
 use Rattle.mc_catalog.specs.BuiltIn.{plain}
 use Rattle.mc_catalog.specs.Limits.{built_in_count}
 use Rattle.mc_catalog.specs.Outcome.{catalog_outcome}
@@ -55,11 +55,11 @@ abbrev pub has_no_table : List TableDecl → Bool
 has_no_table [] = true
 has_no_table (table ∷ tables) = false
 
--- Everything that the catalog declares is built: collations by tables of weights, and no table of
--- rows.
+-- Everything that the catalog declares is built: collations by their files, without rules, and no
+-- table of rows.
 abbrev pub is_built : Catalog → Bool
 is_built catalog =
-    list_all (λ declared. has_table declared.kind) (drop built_in_count catalog.collations)
+    list_all (λ declared. is_built_collation declared) (drop built_in_count catalog.collations)
     && has_no_table catalog.tables
 
 -- An accepted catalog, or the refusal of what isn't built yet.

@@ -235,8 +235,8 @@ const LOADED: [Loaded; 31] = [
         written: b"refused cat.txt UnknownCharset 3\n",
     },
     Loaded {
-        why: "a collation by elements",
-        catalog: b"collation x utf8mb4 uca400 none.txt\n",
+        why: "a collation with rules",
+        catalog: b"collation x utf8mb4 uca400 none.txt rules none.txt\n",
         script: b"",
         swedish: SW,
         german: G2,
@@ -379,7 +379,7 @@ const LOADED: [Loaded; 31] = [
     },
 ];
 
-fn file(alloc: Global, name: &[u8], content: &[u8]) -> Result<(Text, Text), NoMemory>
+pub(crate) fn file(alloc: Global, name: &[u8], content: &[u8]) -> Result<(Text, Text), NoMemory>
     ensures { IfOk result (λ file. file.0 ≡ name.now) }
 {
     Ok((

@@ -1,38 +1,42 @@
+ghost use Rattle.mc_ast.specs.Texts.{HasUtf8};
 ghost use Rattle.mc_catalog.specs.Lawful.{IsLawful};
 ghost use Rattle.mc_catalog.specs.LookUp.{collation_set};
 ghost use Rattle.mc_charset.specs.Chars.{IsWellFormed};
+ghost use Rattle.mycoll.specs.Built.{are_compared};
 ghost use Rattle.mycoll.specs.Forms.{
   equality,
   named_collation,
   operand_value,
   collation_of,
   comparison,
-  operand_set,
-  have_one_set,
   digits_of,
-  literal_digits,
+  string_digits,
   converted_digits,
-  form_value,
+  hex_digits_of,
+  call_value,
+  equal_value,
+  expr_value,
 };
 ghost use Rattle.mycoll.specs.OperandSets.{IsOfSet, AreOfSet};
-ghost use Rattle.mycoll.specs.Literals.{HasUtf8};
+ghost use Rattle.mycoll.specs.Operands.{operand_string, operand_name, operand_set};
 ghost use Rattle.mycoll.specs.Print.{IsTextOfSet};
-ghost use Rattle.mycoll.specs.Queries.{are_compared, IsRead};
+ghost use Rattle.mycoll.specs.Strings.{HasUtf8Characters};
 ghost use Rattle.mycoll.specs.Unanswered.{IsWanted};
-ghost use Rattle.mycoll.specs.Values.{literal_set};
 ghost use Rattle.mycoll.specs.World.{AreSound, connection_set, state_of, world_of};
-ghost use Rattle.std.specs.Bool.{OnTrue};
-ghost use Rattle.std.specs.Option.{is_some};
+ghost use Rattle.std.specs.List.{AllByRecursion};
+ghost use Rattle.std.specs.Option.{is_some, option_copied};
 ghost use Rattle.std.specs.Prelude.{◌≡◌, ◌<◌, IfOk, IfSome, IsTrue, length};
 
-use crate::literal::Literal;
+use crate::built::{are_compared, is_equal, is_hex};
 use crate::messages::{not_built, unknown_collation, unknown_set, wrong_collation};
 use crate::operand_value::OperandValue;
-use crate::query::{Form, Operand};
+use crate::operands::{operand_name, operand_set, operand_string};
 use crate::said::Value;
 use crate::session::Session;
+use crate::strings::{string_set, string_text};
 use crate::unanswered::{Unanswered, refused};
-use crate::values::{conversion, hex_value, literal_set, literal_text, within_limit};
+use crate::values::{conversion, hex_value, within_limit};
+use mc_ast::{Expr, Form};
 use mc_base::{NoMemory, Text};
 use mc_catalog::{Catalog, collation_set, find_collation};
 use mc_charset::{Charset, CollId, charset_by_name, same_set};
@@ -59,7 +63,7 @@ fn equality<C: Collation>(collation: &C, left: &Option<Text>, right: &Option<Tex
 }
 
 /// The set of the connection.
-fn connection_set(catalog: &Catalog, session: &Session) -> Charset
+pub fn connection_set(catalog: &Catalog, session: &Session) -> Charset
     requires { session.now.connection.0 < length catalog.now.collations }
     ensures { result ≡ collation_set catalog.now.collations session.now.connection.0 }
 {
@@ -72,12 +76,12 @@ fn named_collation(
     alloc: Global,
     catalog: &Catalog,
     set: Charset,
-    name: &Option<Text>,
+    name: Option<&Text>,
 ) -> Result<Option<CollId>, Unanswered>
     requires { IsLawful catalog.now }
-    ensures is { IsWanted result (named_collation catalog.now set name.now) }
+    ensures is { IsWanted result (named_collation catalog.now set (option_copied name.entry)) }
     ensures of_set { IfOk result (λ found. IfSome found (IsOfSet catalog.now set)) }
-    ensures named { IfOk result (λ found. is_some found ≡ is_some name.now) }
+    ensures named { IfOk result (λ found. is_some found ≡ is_some (option_copied name.entry)) }
 {
     let Some(name) = name else {
         return Ok(None);
@@ -92,23 +96,24 @@ fn named_collation(
     }
 }
 
-/// The value of an operand: first its literal is refused, then its collation.
+/// The value of an operand: first its string is refused, then its collation.
 #[tactic(auto, unfolding(crate::specs::Forms::operand_value))]
 fn operand_value(
     alloc: Global,
     catalog: &Catalog,
     connection: Charset,
-    operand: Operand,
+    operand: &Expr,
 ) -> Result<OperandValue, Unanswered>
     requires lawful { IsLawful catalog.now }
-    requires utf8 { HasUtf8 operand.literal }
-    ensures is { IsWanted result (operand_value catalog.now connection operand) }
-    ensures of_set { IfOk result (AreOfSet catalog.now (operand_set connection operand)) }
-    ensures named { IfOk result (λ found. is_some found.collation ≡ is_some operand.collation) }
+    requires utf8 { HasUtf8Characters (operand_string operand.now) }
+    ensures is { IsWanted result (operand_value catalog.now connection operand.now) }
+    ensures of_set { IfOk result (AreOfSet catalog.now (operand_set connection operand.now)) }
+    ensures named { IfOk result (λ found.
+        is_some found.collation ≡ is_some (operand_name operand.now)) }
 {
-    let set = literal_set(connection, &operand.literal);
-    let text = literal_text(alloc, connection, operand.literal)?;
-    let collation = named_collation(alloc, catalog, set, &operand.collation)?;
+    let set = operand_set(connection, operand);
+    let text = string_text(alloc, connection, operand_string(operand))?;
+    let collation = named_collation(alloc, catalog, set, operand_name(operand))?;
     let value = within_limit(text);
     Ok(OperandValue { value, collation })
 }
@@ -130,18 +135,19 @@ fn comparison<B: Book>(
     catalog: &Catalog,
     book: &B,
     session: &Session,
-    left: Operand,
-    right: Operand,
+    left: &Expr,
+    right: &Expr,
 ) -> Result<Value, Unanswered>
-    requires left { HasUtf8 left.literal }
-    requires right { HasUtf8 right.literal }
-    requires compared { IsTrue (are_compared left right) }
+    requires left { HasUtf8Characters (operand_string left.now) }
+    requires right { HasUtf8Characters (operand_string right.now) }
+    requires compared { let set = connection_set (world_of catalog.now (B.meaning book.now))
+        (state_of session.now) in IsTrue (are_compared set left.now right.now) }
     requires one_set { let set = connection_set (world_of catalog.now (B.meaning book.now))
-        (state_of session.now) in operand_set set left ≡ operand_set set right }
+        (state_of session.now) in operand_set set left.now ≡ operand_set set right.now }
     requires sound { AreSound (world_of catalog.now (B.meaning book.now)) (B.count book.now)
         (state_of session.now) }
     ensures is { IsWanted result (comparison (world_of catalog.now (B.meaning book.now))
-        (state_of session.now) left right) }
+        (state_of session.now) left.now right.now) }
     ensures text { IfOk result IsTextOfSet }
 {
     let connection = connection_set(catalog, session);
@@ -168,31 +174,31 @@ fn digits_of(alloc: Global, connection: Charset, text: &Option<Text>) -> Result<
     }
 }
 
-/// The digits of a literal's bytes.
-#[tactic(auto, unfolding(crate::specs::Forms::literal_digits))]
-fn literal_digits(alloc: Global, connection: Charset, literal: Literal) -> Result<Value, Unanswered>
-    requires { HasUtf8 literal }
-    ensures is { IsWanted result (literal_digits connection literal) }
+/// The digits of a string's bytes.
+#[tactic(auto, unfolding(crate::specs::Forms::string_digits))]
+fn string_digits(alloc: Global, connection: Charset, string: &Expr) -> Result<Value, Unanswered>
+    requires { HasUtf8Characters string.now }
+    ensures is { IsWanted result (string_digits connection string.now) }
     ensures text { IfOk result IsTextOfSet }
 {
-    let text = literal_text(alloc, connection, literal)?;
+    let text = string_text(alloc, connection, string)?;
     Ok(digits_of(alloc, connection, &within_limit(text))?)
 }
 
-/// The digits of a literal's bytes in the set of a name.
+/// The digits of a string's bytes in the set of a name.
 #[tactic(auto, unfolding(crate::specs::Forms::converted_digits))]
 fn converted_digits(
     alloc: Global,
     connection: Charset,
-    literal: Literal,
+    string: &Expr,
     name: &Text,
 ) -> Result<Value, Unanswered>
-    requires { HasUtf8 literal }
-    ensures is { IsWanted result (converted_digits connection literal name.now) }
+    requires { HasUtf8Characters string.now }
+    ensures is { IsWanted result (converted_digits connection string.now name.now) }
     ensures text { IfOk result IsTextOfSet }
 {
-    let from = literal_set(connection, &literal);
-    let text = literal_text(alloc, connection, literal)?;
+    let from = string_set(connection, string);
+    let text = string_text(alloc, connection, string)?;
     let Some(set) = charset_by_name(name.as_slice()) else {
         return Err(refused(unknown_set(alloc, name.as_slice())));
     };
@@ -203,44 +209,94 @@ fn converted_digits(
     Ok(digits_of(alloc, connection, &value)?)
 }
 
-/// Whether two operands have one set.
-fn have_one_set(connection: Charset, left: &Operand, right: &Operand) -> bool
-    ensures is { result ≡ have_one_set connection left.now right.now }
-    ensures one { OnTrue result
-        (operand_set connection left.now ≡ operand_set connection right.now) }
+/// The digits of a string, or of CONVERT of one.
+#[tactic(auto, unfolding(crate::specs::Forms::hex_digits_of), using(crate::proofs::Texts::levels))]
+fn hex_digits_of(alloc: Global, connection: Charset, arg: &Expr) -> Result<Value, Unanswered>
+    requires { HasUtf8 arg.now }
+    ensures is { IsWanted result (hex_digits_of connection arg.now) }
+    ensures text { IfOk result IsTextOfSet }
 {
-    same_set(
-        literal_set(connection, &left.literal),
-        literal_set(connection, &right.literal),
-    )
+    match &arg.form {
+        Form::Convert { expr, set } => converted_digits(alloc, connection, expr.get(), set),
+        _ => string_digits(alloc, connection, arg),
+    }
 }
 
-/// The value of a form, or its refusal.
-#[tactic(auto, unfolding(crate::specs::Forms::form_value))]
-pub fn form_value<B: Book>(
+/// The value of a call, or its refusal.
+#[tactic(auto, unfolding(crate::specs::Forms::call_value))]
+fn call_value(
+    alloc: Global,
+    connection: Charset,
+    name: &Text,
+    args: &[Expr],
+) -> Result<Value, Unanswered>
+    requires { AllByRecursion HasUtf8 args.now }
+    ensures is { IsWanted result (call_value connection name.now args.now) }
+    ensures text { IfOk result IsTextOfSet }
+{
+    match args {
+        [arg] if is_hex(name) => hex_digits_of(alloc, connection, arg),
+        _ => Err(refused(not_built(alloc))),
+    }
+}
+
+/// The value of `=`, where its operands are compared today.
+#[tactic(auto, unfolding(crate::specs::Forms::equal_value), using(crate::proofs::Texts::levels))]
+fn equal_value<B: Book>(
     alloc: Global,
     catalog: &Catalog,
     book: &B,
     session: &Session,
-    form: Form,
+    left: &Expr,
+    right: &Expr,
 ) -> Result<Value, Unanswered>
-    requires read { IsRead form }
+    requires left { HasUtf8 left.now }
+    requires right { HasUtf8 right.now }
     requires sound { AreSound (world_of catalog.now (B.meaning book.now)) (B.count book.now)
         (state_of session.now) }
-    ensures is { IsWanted result (form_value (world_of catalog.now (B.meaning book.now))
-        (state_of session.now) form) }
+    ensures is { IsWanted result (equal_value (world_of catalog.now (B.meaning book.now))
+        (state_of session.now) left.now right.now) }
     ensures text { IfOk result IsTextOfSet }
 {
-    let connection = connection_set(catalog, session);
-    match form {
-        Form::Compare { left, right } => {
-            if have_one_set(connection, &left, &right) {
-                comparison(alloc, catalog, book, session, left, right)
-            } else {
-                Err(refused(not_built(alloc)))
-            }
+    if are_compared(connection_set(catalog, session), left, right) {
+        comparison(alloc, catalog, book, session, left, right)
+    } else {
+        Err(refused(not_built(alloc)))
+    }
+}
+
+/// The value of an expression of a built form, or its refusal.
+#[tactic(auto, unfolding(crate::specs::Forms::expr_value))]
+pub fn expr_value<B: Book>(
+    alloc: Global,
+    catalog: &Catalog,
+    book: &B,
+    session: &Session,
+    expr: &Expr,
+) -> Result<Value, Unanswered>
+    requires utf8 { HasUtf8 expr.now }
+    requires sound { AreSound (world_of catalog.now (B.meaning book.now)) (B.count book.now)
+        (state_of session.now) }
+    ensures is { IsWanted result (expr_value (world_of catalog.now (B.meaning book.now))
+        (state_of session.now) expr.now) }
+    ensures text { IfOk result IsTextOfSet }
+{
+    match &expr.form {
+        Form::Compare { op, left, right } if is_equal(*op) => {
+            equal_value(alloc, catalog, book, session, left.get(), right.get())
         }
-        Form::Hex(literal) => literal_digits(alloc, connection, literal),
-        Form::HexConvert { literal, set } => converted_digits(alloc, connection, literal, &set),
+        Form::Call { name, args } => {
+            call_value(
+                alloc,
+                connection_set(catalog, session),
+                name,
+                args.as_slice(),
+            )
+        }
+        Form::Int(number) => Ok(Value::Int(*number)),
+        Form::True => Ok(Value::Int(1)),
+        Form::False => Ok(Value::Int(0)),
+        Form::Null => Ok(Value::Null),
+        _ => Err(refused(not_built(alloc))),
     }
 }

@@ -8,11 +8,12 @@ ghost use Rattle.mycoll.specs.Outcome.{named_catalog};
 ghost use Rattle.mycoll.specs.World.{World, State};
 ghost use Rattle.mycoll.specs.declared.said.Said.{Said};
 
-/// The law of answers: a statement has one answer, and leaves one state. So a script has at most
-/// one list of answers, and the answers to some first statements are the first ones of it.
+use mc_parse::outcomes_are_unique;
+
+/// The law of answers: a statement has at most one answer, and leaves at most one state. So a
+/// script has at most one list of answers, and the answers to some first statements are the first
+/// ones of it. That there is an answer `run` alone shows, by giving it.
 pub fn answers_law()
-    ensures some { (w : World) (before : State) (script : List ℕ) (statement : Span)
-        → (said : Said) × (after : State) × IsAnswer w before script statement said after }
     ensures once { (w : World) (before : State) (script : List ℕ) (statement : Span)
         (said other : Said) (after behind : State)
         → IsAnswer w before script statement said after
@@ -24,7 +25,9 @@ pub fn answers_law()
     ensures first { (w : World) (s : State) (script : List ℕ) (said all : List Said)
         → AreFirst w s script said → AreAll w s script all
         → (more : List Said) × (all ≡ said ++ more) }
-{}
+{
+    outcomes_are_unique();
+}
 
 /// The law of accepted catalogs: the collations that one declares are of built kinds. So no file of
 /// a collation is refused as `NotBuilt` by a run.

@@ -5,26 +5,30 @@
 //! by (the catalog, and what its collations mean), and the states before and behind it; `laws` says
 //! that a script has one list of them.
 //!
-//! Its definitions stand in `specs/`: read `Words`, `Outcome`, `Literals`, `Queries`, `Values`,
-//! `World`, `Forms`, `Print`, `Answers`, `Answering` and `Run` in that order. In `src/` the files go
-//! through `words`, `catalog_file`, `script` and `opening`, and a statement through `literal`,
-//! `query`, `values`, `forms`, `answering`, `print` and `output`; `run` joins them.
+//! Its definitions stand in `specs/`: read `Words`, `Outcome`, `Reading`, `Strings`, `Operands`,
+//! `Built`, `Values`, `World`, `Forms`, `Print`, `Answers`, `Answering` and `Run` in that order. In
+//! `src/` the files go through `words`, `catalog_file`, `script` and `opening`, and a statement
+//! through `reading`, `built`, `strings`, `operands`, `values`, `forms`, `items`, `answering`,
+//! `print` and `output`; `run` joins them.
 #![tactic(auto)]
 
 mod answering;
+mod built;
 mod catalog_file;
 #[cfg(test)]
 mod catalog_tests;
 mod forms;
+#[cfg(test)]
+mod grammar_tests;
+mod items;
 mod laws;
-mod literal;
-mod marks;
 mod messages;
 mod opening;
 mod operand_value;
+mod operands;
 mod output;
 mod print;
-mod query;
+mod reading;
 mod run;
 mod said;
 mod script;
@@ -32,9 +36,12 @@ mod script;
 mod script_tests;
 mod session;
 mod status;
+mod strings;
 #[cfg(test)]
 mod tests;
 mod unanswered;
+#[cfg(test)]
+mod unicode_tests;
 mod values;
 mod words;
 

@@ -1,12 +1,14 @@
 ghost use Rattle.mycoll.specs.Messages.{
   no_reading,
+  too_deep,
+  too_many_tokens,
   not_built,
   unknown_set,
   unknown_collation,
   wrong_collation,
   invalid_string,
 };
-ghost use Rattle.std.specs.Prelude.{◌≡◌, ◌++◌, IfOk};
+ghost use Rattle.std.specs.Prelude.{◌≡◌, ◌++◌, IfOk, decimal};
 
 use itoa::Buffer;
 use mc_base::{NoMemory, Refusal, Text};
@@ -23,14 +25,38 @@ fn joined(alloc: Global, before: &[u8], name: &[u8], behind: &[u8]) -> Result<Te
     Ok(text)
 }
 
-/// No reading of the statement that starts at this byte.
+/// A text that ends with a byte's place.
+fn placed(alloc: Global, before: &[u8], place: u32) -> Result<Text, NoMemory>
+    ensures { IfOk result (λ text. text ≡ before.now ++ decimal place) }
+{
+    let mut buffer = Buffer::new();
+    let mut text = Text::from_slice(alloc, before)?;
+    text.extend_from_slice(buffer.format(place).as_bytes())?;
+    Ok(text)
+}
+
+/// No statement goes on at this byte of the script.
 pub fn no_reading(alloc: Global, place: u32) -> Result<Refusal, NoMemory>
     ensures { IfOk result (λ refusal. refusal ≡ no_reading place) }
 {
-    let mut buffer = Buffer::new();
-    let mut text = Text::from_slice(alloc, b"no reading at byte ")?;
-    text.extend_from_slice(buffer.format(place).as_bytes())?;
+    let text = placed(alloc, b"no reading at byte ", place)?;
     Ok(Refusal { number: 9001, text })
+}
+
+/// More than 64 levels at this byte of the script.
+pub fn too_deep(alloc: Global, place: u32) -> Result<Refusal, NoMemory>
+    ensures { IfOk result (λ refusal. refusal ≡ too_deep place) }
+{
+    let text = placed(alloc, b"nested deeper than 64 at byte ", place)?;
+    Ok(Refusal { number: 9003, text })
+}
+
+/// The statement has more than 2,048 tokens.
+pub fn too_many_tokens(alloc: Global) -> Result<Refusal, NoMemory>
+    ensures { IfOk result (λ refusal. refusal ≡ too_many_tokens) }
+{
+    let text = Text::from_slice(alloc, b"more than 2048 tokens")?;
+    Ok(Refusal { number: 9004, text })
 }
 
 /// The statement has a reading, and isn't answered yet.

@@ -11,7 +11,7 @@ struct Script {
     written: &'static [u8],
 }
 
-const SCRIPTS: [Script; 26] = [
+const SCRIPTS: [Script; 27] = [
     Script {
         why: "each character in latin1",
         script: b"SELECT HEX(CONVERT('\xc3\xa9\xe2\x82\xac' USING latin1));",
@@ -67,22 +67,28 @@ const SCRIPTS: [Script; 26] = [
         written: b"HEX(CONVERT(_latin1 X'E4' USING BINARY))\nE4\n",
     },
     Script {
+        why: "a set's name between backquotes, in either case",
+        script: b"SELECT HEX(CONVERT('a' USING `Latin1`));",
+        status: Status::Done,
+        written: b"HEX(CONVERT('a' USING `Latin1`))\n61\n",
+    },
+    Script {
         why: "a reserved word names nothing",
         script: b"SELECT HEX(CONVERT('a' USING select));",
         status: Status::SomeRefused,
-        written: b"ERROR 9001: no reading at byte 0\n",
+        written: b"ERROR 9001: no reading at byte 29\n",
     },
     Script {
         why: "an odd number of digits in quotes",
         script: b"SELECT HEX(X'4');",
         status: Status::SomeRefused,
-        written: b"ERROR 9001: no reading at byte 0\n",
+        written: b"ERROR 9001: no reading at byte 11\n",
     },
     Script {
         why: "a letter that is no digit",
         script: b"SELECT HEX(x'4G');",
         status: Status::SomeRefused,
-        written: b"ERROR 9001: no reading at byte 0\n",
+        written: b"ERROR 9001: no reading at byte 11\n",
     },
     Script {
         why: "an odd number of digits behind 0x",
@@ -94,7 +100,7 @@ const SCRIPTS: [Script; 26] = [
         why: "0x without a digit",
         script: b"SELECT HEX(0x);",
         status: Status::SomeRefused,
-        written: b"ERROR 9001: no reading at byte 0\n",
+        written: b"ERROR 9001: no reading at byte 11\n",
     },
     Script {
         why: "a national string and the one beside it",
@@ -106,7 +112,7 @@ const SCRIPTS: [Script; 26] = [
         why: "no national string in double quotes",
         script: b"SELECT HEX(n\"a\");",
         status: Status::SomeRefused,
-        written: b"ERROR 9001: no reading at byte 0\n",
+        written: b"ERROR 9001: no reading at byte 12\n",
     },
     Script {
         why: "an introduced string is its bytes",
@@ -118,7 +124,7 @@ const SCRIPTS: [Script; 26] = [
         why: "no set of this name, so no introducer",
         script: b"SELECT HEX(_nope'a');",
         status: Status::SomeRefused,
-        written: b"ERROR 9001: no reading at byte 0\n",
+        written: b"ERROR 9001: no reading at byte 16\n",
     },
     Script {
         why: "utf8 is another name of utf8mb3",
@@ -128,7 +134,7 @@ const SCRIPTS: [Script; 26] = [
     },
     Script {
         why: "a comparison without padding",
-        script: b"SELECT 'a' COLLATE utf8mb4_0900_bin = 'a ';SELECT 'a ' = 'a' COLLATE utf8mb4_bin;",
+        script: b"SELECT 'a' COLLATE utf8mb4_0900_bin = 'a ';SELECT 'a ' = 'a' COLLATE utf8mb4_bin",
         status: Status::Done,
         written: b"'a' COLLATE utf8mb4_0900_bin = 'a '\n0\n'a ' = 'a' COLLATE utf8mb4_bin\n1\n",
     },
@@ -166,17 +172,27 @@ const SCRIPTS: [Script; 26] = [
         why: "two collations, and a hexadecimal literal without one",
         script: b"SELECT 'a' COLLATE utf8mb4_bin = 'a' COLLATE utf8mb4_bin;SELECT X'41' = 'A';",
         status: Status::SomeRefused,
-        written: b"ERROR 9001: no reading at byte 0\nERROR 9001: no reading at byte 57\n",
+        written: b"ERROR 9099: not built yet\nERROR 9099: not built yet\n",
     },
 ];
 
-fn is_answered_so(alloc: Global, row: &Script) -> Result<bool, NoMemory> {
+/// Whether a script is answered so without a catalog.
+pub fn is_answered(
+    alloc: Global,
+    script: Text,
+    status: Status,
+    written: &[u8],
+) -> Result<bool, NoMemory> {
     let words = words_of(alloc, &[b"s.sql"])?;
-    let content = Text::from_slice(alloc, row.script)?;
-    let mut files = one_file(alloc, b"s.sql", content, &[])?;
+    let mut files = one_file(alloc, b"s.sql", script, &[])?;
     let mut out = MemSink::new(alloc, List::new(alloc));
-    let status = status_of(alloc, words.as_slice(), &mut files, &mut out);
-    Ok(status == row.status && out.written().as_slice() == row.written)
+    let ends = status_of(alloc, words.as_slice(), &mut files, &mut out);
+    Ok(ends == status && out.written().as_slice() == written)
+}
+
+fn is_answered_so(alloc: Global, row: &Script) -> Result<bool, NoMemory> {
+    let script = Text::from_slice(alloc, row.script)?;
+    is_answered(alloc, script, row.status, row.written)
 }
 
 #[test]
@@ -188,31 +204,4 @@ fn scripts_are_answered_as_worked_out(rt: HostRuntime) {
             row.why
         );
     }
-}
-
-/// Whether HEX of so many strings side by side, from byte 2 of a script on, has no reading.
-fn has_no_reading(alloc: Global, strings: usize) -> Result<bool, NoMemory> {
-    let words = words_of(alloc, &[b"s.sql"])?;
-    let mut script = Text::from_slice(alloc, b"; SELECT HEX(")?;
-    for _ in 0..strings {
-        script.extend_from_slice(b"'a' ")?;
-    }
-    script.extend_from_slice(b")")?;
-    let mut files = one_file(alloc, b"s.sql", script, &[])?;
-    let mut out = MemSink::new(alloc, List::new(alloc));
-    let status = status_of(alloc, words.as_slice(), &mut files, &mut out);
-    let want = b"ERROR 9001: no reading at byte 2\n".as_slice();
-    Ok(status == Status::SomeRefused && out.written().as_slice() == want)
-}
-
-#[test]
-fn a_statement_of_more_than_2048_tokens_is_refused(rt: HostRuntime) {
-    assert!(rt;
-        !has_no_reading(rt.alloc(), 2044).unwrap_or(true),
-        "2048 tokens"
-    );
-    assert!(rt;
-        has_no_reading(rt.alloc(), 2045).unwrap_or(false),
-        "2049 tokens"
-    );
 }

@@ -19,7 +19,7 @@ struct Row {
     written: &'static [u8],
 }
 
-const ROWS: [Row; 18] = [
+const ROWS: [Row; 19] = [
     Row {
         why: "trailing spaces count for nothing under PAD SPACE",
         words: &[b"s.sql"],
@@ -51,14 +51,24 @@ const ROWS: [Row; 18] = [
         written: b"'it''s' '\\\\n' = \"it's\\\\n\"\n1\n",
     },
     Row {
-        why: "a second statement without a reading is refused",
+        why: "a second statement without an end",
         words: &[b"s.sql"],
         name: b"s.sql",
         content: b"SELECT 'a' = 'b';SELECT 1",
         failing_reads: &[],
         failing_writes: &[],
+        status: Status::Done,
+        written: b"'a' = 'b'\n0\n1\n1\n",
+    },
+    Row {
+        why: "a second statement without a reading is refused",
+        words: &[b"s.sql"],
+        name: b"s.sql",
+        content: b"SELECT 'a' = 'b';SELECT 1 1",
+        failing_reads: &[],
+        failing_writes: &[],
         status: Status::SomeRefused,
-        written: b"'a' = 'b'\n0\nERROR 9001: no reading at byte 17\n",
+        written: b"'a' = 'b'\n0\nERROR 9001: no reading at byte 26\n",
     },
     Row {
         why: "nothing is left after closed comments",

@@ -1,13 +1,7 @@
 ghost use Rattle.mc_charset.specs.Chars.{IsWellFormed};
-ghost use Rattle.mc_charset.specs.declared.charset.Charset.TheVariants.{Utf8mb4, Binary};
-ghost use Rattle.mc_convert.specs.Conversion.{converted_text, taken_for};
-ghost use Rattle.mycoll.specs.Literals.{HasUtf8};
-ghost use Rattle.mycoll.specs.Unanswered.{IsWanted};
+ghost use Rattle.mc_convert.specs.Conversion.{converted_text};
 ghost use Rattle.mycoll.specs.Values.{
   within_limit,
-  literal_set,
-  introduced_text,
-  literal_text,
   conversion,
   upper_digit,
   hex_digits,
@@ -15,11 +9,8 @@ ghost use Rattle.mycoll.specs.Values.{
 };
 ghost use Rattle.std.specs.Prelude.{◌≡◌, ◌<◌, ◌&&◌, IfOk, IfSome, IsUtf8};
 
-use crate::literal::Literal;
-use crate::messages::invalid_string;
-use crate::unanswered::{Unanswered, refused};
 use mc_base::{NoMemory, Text};
-use mc_charset::{Charset, bytes_law, utf8_law};
+use mc_charset::{Charset, utf8_law};
 use mc_convert::{convert, reinterpret};
 use std::alloc::Global;
 
@@ -38,18 +29,6 @@ pub fn within_limit(text: Text) -> Option<Text>
     }
 }
 
-/// The set of a literal, beside that of the connection.
-pub fn literal_set(connection: Charset, literal: &Literal) -> Charset
-    ensures { result ≡ literal_set connection literal.now }
-{
-    match literal {
-        Literal::Plain(_) => connection,
-        Literal::National(_) => Charset::Utf8mb3,
-        Literal::Hex(_) => Charset::Binary,
-        Literal::Introduced { set, .. } => *set,
-    }
-}
-
 /// The text in another set: as it is where that is its own, else converted.
 #[tactic(auto, using(crate::proofs::OwnText::own_text))]
 fn in_set(alloc: Global, from: Charset, to: Charset, text: Text) -> Result<Text, NoMemory>
@@ -61,56 +40,6 @@ fn in_set(alloc: Global, from: Charset, to: Charset, text: Text) -> Result<Text,
         return Ok(text);
     }
     convert(alloc, from, to, text.as_slice())
-}
-
-/// The script's characters as a text of a set.
-fn script_text(alloc: Global, set: Charset, text: Text) -> Result<Text, NoMemory>
-    requires { IsUtf8 text }
-    ensures is { IfOk result (λ found. found ≡ converted_text Utf8mb4 set text) }
-    ensures well_formed { IfOk result (λ found. IsWellFormed set found) }
-{
-    utf8_law();
-    in_set(alloc, Charset::Utf8mb4, set, text)
-}
-
-/// The bytes as they stand.
-fn binary_text(bytes: Text) -> Text
-    ensures is { result ≡ bytes }
-    ensures well_formed { IsWellFormed Binary result }
-{
-    bytes_law(bytes.as_slice());
-    bytes
-}
-
-/// An introducer's bytes as a text of its set; refused where they are none.
-fn introduced_text(alloc: Global, set: Charset, bytes: &[u8]) -> Result<Text, Unanswered>
-    ensures is { IsWanted result (introduced_text set (taken_for set bytes.now)) }
-    ensures well_formed { IfOk result (λ text. IsWellFormed set text) }
-{
-    match reinterpret(alloc, set, bytes)? {
-        Some(text) => Ok(text),
-        None => Err(refused(invalid_string(alloc, set))),
-    }
-}
-
-/// The text of a literal in its set.
-#[tactic(auto, unfolding(crate::specs::Values::literal_text))]
-pub fn literal_text(
-    alloc: Global,
-    connection: Charset,
-    literal: Literal,
-) -> Result<Text, Unanswered>
-    requires { HasUtf8 literal }
-    ensures is { IsWanted result (literal_text connection literal) }
-    ensures well_formed { IfOk result (λ text.
-        IsWellFormed (literal_set connection literal) text) }
-{
-    match literal {
-        Literal::Plain(text) => Ok(script_text(alloc, connection, text)?),
-        Literal::National(text) => Ok(script_text(alloc, Charset::Utf8mb3, text)?),
-        Literal::Hex(bytes) => Ok(binary_text(bytes)),
-        Literal::Introduced { set, bytes } => introduced_text(alloc, set, bytes.as_slice()),
-    }
 }
 
 /// The value of CONVERT: from binary the bytes are taken for a text of the set, and are NULL where
@@ -173,8 +102,9 @@ pub fn hex_value(alloc: Global, connection: Charset, bytes: &[u8]) -> Result<Opt
     ensures is { IfOk result (λ value. value ≡ hex_value connection bytes.now) }
     ensures well_formed { IfOk result (λ value. IfSome value (IsWellFormed connection)) }
 {
+    utf8_law();
     match within_limit(hex_text(alloc, bytes)?) {
-        Some(digits) => Ok(within_limit(script_text(alloc, connection, digits)?)),
+        Some(digits) => Ok(within_limit(in_set(alloc, Charset::Utf8mb4, connection, digits)?)),
         None => Ok(None),
     }
 }

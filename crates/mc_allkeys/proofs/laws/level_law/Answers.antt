@@ -1,5 +1,8 @@
-use Rattle.mc_allkeys.proofs.LevelLemmas.{list-front, list-fresh, list-alone, list-weights}
+use Rattle.mc_allkeys.proofs.LevelLemmas.{list-step, list-front, list-fresh, list-alone, list-weights}
 use Rattle.mc_allkeys.proofs.laws.level_law.Goals as goal
+
+pub returns-clause-step : goal.returns-clause-step
+returns-clause-step c = list-step
 
 pub returns-clause-front : goal.returns-clause-front
 returns-clause-front c = list-front

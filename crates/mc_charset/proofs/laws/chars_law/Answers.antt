@@ -1,6 +1,7 @@
 use Rattle.std.proofs.Common.{sym, ◌∙◌}
 use Rattle.mc_charset.proofs.Chars.{chars_spelled, well_formed_spelled, same_code, nothing_more, Spells_join, chars_front}
-use Rattle.mc_charset.proofs.CodePoints.{is_spelled_tells, spelled_code_point, chars_code_points}
+use Rattle.mc_charset.specs.CodePoints.{spelled_code_point}
+use Rattle.mc_charset.proofs.CodePoints.{is_spelled_tells, chars_code_points}
 use Rattle.mc_charset.proofs.laws.chars_law.Goals as goal
 
 pub returns : goal.returns

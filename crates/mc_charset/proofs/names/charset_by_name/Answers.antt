@@ -1,4 +1,4 @@
-use Rattle.std.proofs.Common.{Some, sym, ◌∙◌}
+use Rattle.std.proofs.Common.{sym, ◌∙◌}
 use Rattle.mc_charset.proofs.SetNames.{set_named_names}
 use Rattle.mc_charset.proofs.names.charset_by_name.Goals as goal
 

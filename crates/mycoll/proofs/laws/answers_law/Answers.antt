@@ -1,15 +1,12 @@
--- A statement has one answer, so a script has one list of them.
-use Rattle.mycoll.proofs.OneAnswer.{all_once, first_of_all, one_answer, some_answer}
+-- A statement has at most one answer, so a script has at most one list of them.
+use Rattle.mycoll.proofs.OneAnswer.{all_once, first_of_all, one_answer}
 use Rattle.mycoll.proofs.laws.answers_law.Goals as goal
 
-pub returns-clause-some : goal.returns-clause-some
-returns-clause-some c = some_answer
-
 pub returns-clause-once : goal.returns-clause-once
-returns-clause-once c = one_answer
+returns-clause-once c = one_answer c.outcomes_are_unique.ensures
 
 pub returns-clause-all : goal.returns-clause-all
-returns-clause-all c = all_once
+returns-clause-all c = all_once c.outcomes_are_unique.ensures
 
 pub returns-clause-first : goal.returns-clause-first
-returns-clause-first c = first_of_all
+returns-clause-first c = first_of_all c.outcomes_are_unique.ensures

@@ -1,0 +1,5 @@
+pub mod Kept
+pub mod Alike
+pub mod Copies
+pub mod Fitted
+pub mod WeightBytes

@@ -1,0 +1,16 @@
+pub mod Place
+pub mod Language
+pub mod Read
+pub mod Lists
+pub mod Strings
+pub mod Signs
+pub mod Comparisons
+pub mod Clauses
+pub mod Outcome
+pub mod Said
+pub mod Members
+pub mod Calls
+pub mod Casts
+pub mod Parts
+pub mod Cuts
+pub mod Primary

@@ -1,0 +1,4 @@
+mod Escapes
+mod EscapeLaws
+mod SameBytes
+mod StandardFacts

@@ -1,0 +1,57 @@
+ghost use Rattle.mc_print.specs.Escapes.{as_written, escaped_byte, is_escaped};
+ghost use Rattle.std.specs.List.{position_or_len};
+ghost use Rattle.std.specs.Prelude.{◌≡◌, ◌≤◌, ◌++◌, OnOk, length};
+
+use mc_base::{NoMemory, Text};
+
+/// Appends a header or a text as it is written.
+// The bytes between two escapes are copied as one slice.
+#[tactic(auto, unfolding(crate::specs::Escapes::as_written))]
+pub(crate) fn push_escaped(out: &mut Text, text: &[u8]) -> Result<(), NoMemory>
+    ensures { OnOk result (out.new ≡ out.old ++ as_written text.now) }
+{
+    let mut rest = text;
+    loop {
+        let (plain, behind) = rest.split_at(plain_len(rest));
+        out.extend_from_slice(plain)?;
+        let Some((byte, more)) = behind.split_first() else {
+            return Ok(());
+        };
+        push_escape(out, *byte)?;
+        rest = more;
+    }
+}
+
+/// How many bytes stand before the first one that is written by an escape.
+fn plain_len(text: &[u8]) -> usize
+    ensures len { result ≡ position_or_len is_escaped text.now }
+    ensures within { result ≤ length text.now }
+{
+    for (i, byte) in text.iter().enumerate() {
+        if is_escaped(*byte) {
+            return i;
+        }
+    }
+    text.len()
+}
+
+/// Whether a byte is written by an escape.
+#[inline(always)]
+fn is_escaped(byte: u8) -> bool
+    ensures { result ≡ is_escaped byte }
+{
+    byte == b'\0' || byte == b'\t' || byte == b'\n' || byte == b'\\'
+}
+
+/// Appends a byte as it is written.
+fn push_escape(out: &mut Text, byte: u8) -> Result<(), NoMemory>
+    ensures { OnOk result (out.new ≡ out.old ++ escaped_byte byte) }
+{
+    match byte {
+        b'\0' => out.extend_from_slice(b"\\0"),
+        b'\t' => out.extend_from_slice(b"\\t"),
+        b'\n' => out.extend_from_slice(b"\\n"),
+        b'\\' => out.extend_from_slice(b"\\\\"),
+        other => out.push(other),
+    }
+}

@@ -1,0 +1,29 @@
+use Rattle.std.proofs.Common.{[], sym, ap, subst, ◌∙◌}
+use Rattle.std.proofs.lemmas.Result.{IfOk-weaker}
+use Rattle.mc_charset.specs.Chars.{chars, IsWellFormed}
+use Rattle.mc_strfun.specs.Trimmed.{without_leading}
+use Rattle.mc_strfun.proofs.Lengths.{empty_spelled}
+use Rattle.mc_strfun.proofs.Trimmed.{nothing_trimmed}
+use Rattle.mc_strfun.proofs.trimming.trim.Goals as goal
+
+pub returns-then-is_empty : goal.returns-then-is_empty
+returns-then-is_empty c =
+    let set = c.args.set in
+    let removed = c.args.removed.now in
+    let text = c.args.text.now in
+    let law = c.chars_law.ensures in
+    let none = ap (λ t. chars set t) (c.is_empty.ensures.0 c.if-is_empty.true) ∙ law.decodes set [] [] (empty_spelled set) in
+    IfOk-weaker c.from_slice.result _ _
+    (λ value h. nothing_trimmed set c.args.side (chars set removed) (chars set text) text value none (law.encodes set text c.requires.text)
+    (h ∙ c.as_slice.ensures))
+    c.from_slice.ensures
+
+pub trim_end-requires-clause-text : goal.trim_end-requires-clause-text
+trim_end-requires-clause-text c =
+    let set = c.args.set in
+    let removed = c.as_slice-removed.result.now in
+    let text = c.as_slice-in-Both.result.now in (
+      without_leading (chars set removed) (chars set text),
+      c.trim_front.ensures set (subst (IsWellFormed set) (sym c.as_slice-removed.ensures) c.requires.removed)
+          (subst (IsWellFormed set) (sym c.as_slice-in-Both.ensures) c.requires.text),
+    )

@@ -1,0 +1,12 @@
+pub mod Levels
+pub mod CodeLemmas
+pub mod Places
+pub mod PieceFacts
+pub mod TailSteps
+pub mod TailPlaces
+pub mod Filters
+pub mod Fronts
+pub mod SetLaw
+pub mod InnerFacts
+pub mod FlatOrder
+pub mod Splits

@@ -1,0 +1,11 @@
+pub mod Kind
+pub mod Weighing
+pub mod UcaMeaning
+pub mod SetContractions
+pub mod UcaLaws
+pub mod Reach
+pub mod Inner
+pub mod Streams
+pub mod Inserts
+pub mod Fault
+pub mod Collated

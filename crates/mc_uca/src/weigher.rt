@@ -1,0 +1,72 @@
+ghost use Rattle.mc_allkeys.specs.Table.{contractions_of};
+ghost use Rattle.mc_rules.specs.Elements.{elements_of};
+ghost use Rattle.mc_uca.specs.Inner.{MarksInner};
+ghost use Rattle.mc_uca.specs.Kind.{family_of, levels_of};
+ghost use Rattle.mc_uca.specs.Reach.{Reaches};
+ghost use Rattle.mc_uca.specs.Streams.{pending_left};
+ghost use Rattle.std.specs.Prelude.{◌≡◌, ◌≤◌, ◌∷◌, [], IfOk};
+
+use crate::UcaKind;
+use crate::inner::Inner;
+use crate::pending::Pending;
+use crate::reach::Reach;
+use mc_allkeys::Keys;
+use mc_base::NoMemory;
+use mc_charset::Charset;
+use mc_rules::unlisted_of;
+use std::alloc::Global;
+
+/// What gives the texts of a set their elements: a table, with what is made of it once.
+#[derive(Drop)]
+pub(crate) struct Weigher {
+    pub(crate) charset: Charset,
+    pub(crate) kind: UcaKind,
+    pub(crate) keys: Keys,
+    pub(crate) reach: Reach,
+    pub(crate) inner: Inner,
+    ghost some_level: { 1 ≤ levels_of kind },
+    ghost few_levels: { levels_of kind ≤ 3 },
+    ghost reaches: { Reaches (contractions_of keys.entries) reach },
+    ghost inners: { MarksInner (contractions_of keys.entries) inner },
+}
+
+impl Weigher {
+    /// That of this table.
+    pub(crate) fn new(
+        alloc: Global,
+        charset: Charset,
+        kind: UcaKind,
+        keys: Keys,
+    ) -> Result<Weigher, NoMemory>
+        requires some_level { 1 ≤ levels_of kind }
+        requires few_levels { levels_of kind ≤ 3 }
+        ensures charset { IfOk result (λ weigher. weigher.charset ≡ charset) }
+        ensures kind { IfOk result (λ weigher. weigher.kind ≡ kind) }
+        ensures keys { IfOk result (λ weigher. weigher.keys ≡ keys) }
+    {
+        let reach = Reach::of(alloc, &keys)?;
+        let inner = Inner::of(alloc, &keys)?;
+        Ok(Weigher {
+            charset,
+            kind,
+            keys,
+            reach,
+            inner,
+        })
+    }
+
+    /// The elements of a character by itself.
+    pub(crate) fn char_elements(&self, code: u32) -> Pending<'_>
+        requires { code ≤ 0x10FFFF }
+        ensures { pending_left result
+            ≡ elements_of self.now.keys (family_of self.now.kind) (code ∷ []) }
+    {
+        match self.keys.single(code) {
+            Some(elements) => Pending::listed(&self.keys, elements),
+            None => {
+                let elements = unlisted_of(&self.keys, self.kind.family(), code);
+                Pending::unlisted(&self.keys, elements)
+            }
+        }
+    }
+}

@@ -1,0 +1,4 @@
+mod Digits
+mod HexDigits
+mod ShownLaws
+mod StandardFacts
