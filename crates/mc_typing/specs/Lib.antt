@@ -1,0 +1,12 @@
+pub mod Wanted
+pub mod Scope
+pub mod Operands
+pub mod Messages
+pub mod Names
+pub mod Functions
+pub mod Literals
+pub mod Columns
+pub mod Operators
+pub mod Calls
+pub mod Exprs
+pub mod Statements

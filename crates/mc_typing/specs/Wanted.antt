@@ -1,0 +1,17 @@
+-- What a call gives, beside what the definitions say.
+use Rattle.std.specs.Prelude.{◌≡◌, Result, Ok, Err}
+use Rattle.mc_base.specs.declared.no_memory.NoMemory.{NoMemory as Lack}
+use Rattle.mc_base.specs.declared.refusal.Refusal.{Refusal}
+use Rattle.mc_typing.specs.declared.fault.TypeFault.{TypeFault}
+use Rattle.mc_typing.specs.declared.fault.TypeFault.TheVariants.{Refused, NoMemory}
+
+-- It is the value or the refusal that is wanted. Want of memory takes the place of any.
+abbrev pub IsWanted : {T : Type 0} → Result T TypeFault → Result T Refusal → Type 0
+IsWanted (Ok value) wanted = wanted ≡ Ok value
+IsWanted (Err (Refused refusal)) wanted = wanted ≡ Err refusal
+IsWanted (Err NoMemory) wanted = Unit {0}
+
+-- The fault that comes of a refusal, or of want of memory for it.
+abbrev pub fault_of : Result Refusal Lack → TypeFault
+fault_of (Ok refusal) = Refused refusal
+fault_of (Err lack) = NoMemory
