@@ -1,4 +1,5 @@
 pub mod Classes
+pub mod Repertoires
 pub mod PlainTexts
 pub mod Conversions
 pub mod CodePoints
@@ -6,4 +7,5 @@ pub mod Lossless
 pub mod BytesClass
 pub mod Caps
 pub mod Texts
+pub mod KeptTexts
 pub mod StepLemmas

@@ -74,7 +74,7 @@ all_capped from to class (code ∷ codes) text b s h r (suc k) l =
 
 -- Texts that lose no character
 
-unless : (b : Bool) (A : Type 0) → (b ≡ false → A) → MatchBool b Unit A
+pub unless : (b : Bool) (A : Type 0) → (b ≡ false → A) → MatchBool b Unit A
 unless true A f = tt
 unless false A f = f refl
 
@@ -91,7 +91,7 @@ lossless e from to text class w i r =
     (λ b. all_capped from to class (chars from text) text b (e from text w) i.has_all r)
 
 -- What holds of other sets than binary.
-otherwise : (b : Bool) (A B : Type 0) → b ≡ false → MatchBool b A B → B
+pub otherwise : (b : Bool) (A B : Type 0) → b ≡ false → MatchBool b A B → B
 otherwise true A B e h = absurd (cc)
 otherwise false A B e h = h
 
@@ -112,14 +112,19 @@ keeps_each from to (code ∷ codes) h =
     keeps_each from to codes (λ k l. h (suc k) (omega arith)) in
     ap (λ c. c ∷ map (stand_in from to) codes) e ∙ ap (λ cs. code ∷ cs) i
 
+-- The characters of a converted text are those of the text, or `?`.
+pub each_char : Decodes → (from to : Charset) (text converted : List ℕ) → is_binary to ≡ false
+    → IsConverted from to text converted → chars to converted ≡ map (stand_in from to) (chars from text)
+each_char d from to text converted b c =
+    d to (map (stand_in from to) (chars from text)) converted
+    (otherwise (is_binary to) (converted ≡ text)
+    (Spells to (map (stand_in from to) (chars from text)) converted) b c)
+
 -- A text that loses no character has the same ones once converted.
 pub same_chars : Decodes → (from to : Charset) (text converted : List ℕ) → is_binary to ≡ false
     → IsLossless from to text → IsConverted from to text converted
     → chars to converted ≡ chars from text
 same_chars d from to text converted b h c =
-    let s =
-    otherwise (is_binary to) (converted ≡ text)
-    (Spells to (map (stand_in from to) (chars from text)) converted) b c in
-    d to (map (stand_in from to) (chars from text)) converted s
+    each_char d from to text converted b c
     ∙ keeps_each from to (chars from text)
     (otherwise (is_binary to) Unit (AllFit from to text) b h)

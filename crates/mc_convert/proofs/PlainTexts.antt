@@ -13,19 +13,19 @@ use Rattle.mc_convert.specs.Plain.{IsPlain, SpellsAscii, after_one_zero, after_t
 abbrev pub SpellsLow : Charset → Type 0
 SpellsLow set = (b : ℕ) → b < 0x80 → spell set b ≡ Some (b ∷ [])
 
-latin1_plain : SpellsLow Latin1
+pub latin1_plain : SpellsLow Latin1
 unfolding spell
 latin1_plain b h = grind (arith, nat_tests)
 
-ascii_plain : SpellsLow Ascii
+pub ascii_plain : SpellsLow Ascii
 unfolding spell
 ascii_plain b h = grind (arith, nat_tests)
 
-utf8mb3_plain : SpellsLow Utf8mb3
+pub utf8mb3_plain : SpellsLow Utf8mb3
 unfolding spell
 utf8mb3_plain b h = grind (arith, nat_tests)
 
-utf8mb4_plain : SpellsLow Utf8mb4
+pub utf8mb4_plain : SpellsLow Utf8mb4
 unfolding spell
 utf8mb4_plain b h = grind (arith, nat_tests)
 

@@ -5,13 +5,13 @@ use Rattle.std.specs.Prelude.{IfSome, MatchOption}
 use Rattle.std.proofs.lemmas.Bool.{cases_lt, false≢true}
 use Rattle.std.proofs.lemmas.Grind.{common_steps}
 use Rattle.std.proofs.lemmas.List.{length-drop, drop-drop, take-append-drop}
-use Rattle.std.proofs.Math.Seq.{drop-append_seam}
+use Rattle.std.proofs.Math.Seq.{drop-append_seam, take-append_seam}
 use Rattle.mc_charset.specs.declared.charset.Charset.{Charset}
 use Rattle.mc_charset.specs.Chars.{spell, spell_all, chars, Spells}
 use Rattle.mc_charset.specs.NextChar.{IsFirst}
 use Rattle.mc_convert.specs.Conversion.{fits, stand_in, IsFirstUnfit}
 use Rattle.mc_convert.specs.Plain.{IsPlain}
-use Rattle.mc_convert.specs.Steps.{FitOrLost, TakesFront, IsLostPlace}
+use Rattle.mc_convert.specs.Steps.{AppendsEach, FitOrLost, TakesFront, IsLostPlace}
 use Rattle.mc_convert.proofs.Classes.{rest_behind}
 use Rattle.mc_convert.proofs.Conversions.{Continues, Spells_first, Spells_none, put_parts, stand_ins, all_fit, at_place, within_at, none_left}
 
@@ -195,3 +195,53 @@ pub Reached_within : (from to : Charset) (text rest done : List ℕ) (place : �
 Reached_within from to text rest done place lost r =
     let in_range = r.in_range in
     lost_before_end from to text place (length text) lost (omega arith) r.lost_before
+
+-- Behind a text that was there
+
+-- What was written behind a text, and what is left, at a place in characters.
+pub record ReachedBehind (from to : Charset) (text rest base out : List ℕ) (place : ℕ) (lost : Option ℕ) : Type 0 where
+  pub done : List ℕ
+  pub behind : out ≡ base ++ done
+  pub reached : Reached from to text rest done place lost
+
+pub ReachedBehind_start : (from to : Charset) (text base : List ℕ) → ReachedBehind from to text text base base 0 None
+ReachedBehind_start from to text base = record {
+  done = [];
+  behind = sym (append-nil base);
+  reached = Reached_start from to text;
+}
+
+pub ReachedBehind_step : (from to : Charset) (text rest base out new : List ℕ) (place len count : ℕ) (lost : Option ℕ) (fit : Bool)
+    → ((codes more front behind : List ℕ) → Spells to codes front → Spells to more behind → Spells to (codes ++ more) (front ++ behind))
+    → ReachedBehind from to text rest base out place lost → TakesFront from to rest out new len count fit
+    → ReachedBehind from to text (take (length rest - len) (drop len rest)) base new (place + count) (option_or lost (cond fit None (Some place)))
+ReachedBehind_step from to text rest base out new place len count lost fit joins r t = record {
+  done = r.done ++ t.piece;
+  behind = t.written ∙ ap (λ x. x ++ t.piece) r.behind ∙ append_assoc base r.done t.piece;
+  reached =
+      Reached_step from to text rest r.done (r.done ++ t.piece) place len count lost fit joins r.reached
+      (record {
+        codes = t.codes;
+        piece = t.piece;
+        counted = t.counted;
+        positive = t.positive;
+        within = t.within;
+        short = t.short;
+        its_chars = t.its_chars;
+        spelled = t.spelled;
+        written = refl;
+        fit_or_lost = t.fit_or_lost;
+      });
+}
+
+pub ReachedBehind_end : (from to : Charset) (text rest base out : List ℕ) (place : ℕ) (lost : Option ℕ)
+    → ReachedBehind from to text rest base out place lost → chars from rest ≡ []
+    → AppendsEach from to text base out
+ReachedBehind_end from to text rest base out place lost r e =
+    (r.done, Reached_end from to text rest r.done place lost r.reached e, r.behind)
+
+-- What was there stays in front.
+pub ReachedBehind_front : (from to : Charset) (text rest base out : List ℕ) (place : ℕ) (lost : Option ℕ)
+    → ReachedBehind from to text rest base out place lost → take (length base) out ≡ base
+ReachedBehind_front from to text rest base out place lost r =
+    ap (take (length base)) r.behind ∙ take-append_seam base r.done

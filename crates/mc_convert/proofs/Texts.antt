@@ -9,7 +9,8 @@ use Rattle.mc_charset.specs.declared.charset.Charset.{Charset}
 use Rattle.mc_charset.specs.declared.charset.Charset.TheVariants.{Latin1, Ascii, Utf8mb3, Utf8mb4, Ucs2, Utf16, Utf32, Binary}
 use Rattle.mc_charset.specs.Chars.{spell, spell_all, chars, is_spelled, Spells, IsWellFormed}
 use Rattle.mc_convert.specs.Conversion.{is_binary, fits, stand_in, padded, spelling, converted_text, taken_for, IsConverted, IsReinterpreted}
-use Rattle.mc_convert.proofs.Conversions.{Spells_first, Spells_none}
+use Rattle.mc_convert.specs.Steps.{AppendsEach}
+use Rattle.mc_convert.proofs.Conversions.{Spells_first, Spells_none, converted_each}
 use Rattle.mc_convert.proofs.CodePoints.{has_low}
 
 -- A text spelled by characters is their spellings, one behind the other.
@@ -82,6 +83,18 @@ IsConverted-tells from to text converted =
 pub converted_text-is : (from to : Charset) (text : List ℕ)
     → IsConverted from to text (converted_text from to text)
 converted_text-is from to text = (IsConverted-tells from to text (converted_text from to text)).1 refl
+
+-- What is written behind nothing.
+pub behind_nothing : (from to : Charset) (text old new : List ℕ) → old ≡ []
+    → new ≡ old ++ converted_text from to text → IsConverted from to text new
+behind_nothing from to text old new e w =
+    (IsConverted-tells from to text new).1 (w ∙ ap (λ x. x ++ converted_text from to text) e)
+
+-- Each character of a text, written behind another one, in a set other than binary.
+pub appended_text : (from to : Charset) (text old new : List ℕ) → is_binary to ≡ false
+    → AppendsEach from to text old new → new ≡ old ++ converted_text from to text
+appended_text from to text old new n a =
+    a.2 ∙ ap (λ x. old ++ x) (IsConverted-is from to text a.0 (converted_each from to text a.0 n a.1))
 
 binary_text : (to : Charset) (text : List ℕ) → IsWellFormed Binary text → is_binary to ≡ true
     → IsWellFormed to text

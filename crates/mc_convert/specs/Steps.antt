@@ -2,7 +2,7 @@
 use Rattle.std.specs.Prelude.{◌≡◌, ◌<◌, ◌≤◌, ◌&&◌, ℕ, Bool, true, false, List}
 use Rattle.std.specs.Prelude.{[], ◌∷◌, ◌++◌}
 use Rattle.std.specs.Prelude.{Option, length, drop, map, slice_index, MatchOption, Result, Ok}
-use Rattle.std.specs.Prelude.{Err, ⊤}
+use Rattle.std.specs.Prelude.{Err}
 use Rattle.std.specs.Option.{is_some}
 use Rattle.mc_charset.specs.declared.charset.Charset.{Charset}
 use Rattle.mc_charset.specs.Chars.{chars, Spells}
@@ -38,7 +38,13 @@ abbrev pub Takes : Charset → Charset → List ℕ → List ℕ → List ℕ
 Takes from to text old new (Ok (Front count len fit)) =
     TakesFront from to text old new len count fit
 Takes from to text old new (Ok Nothing) = (chars from text ≡ []) × (new ≡ old)
-Takes from to text old new (Err lack) = ⊤
+Takes from to text old new (Err lack) = new ≡ old
+
+-- Each character of the text was appended, or `?` where `to` lacks it.
+abbrev pub AppendsEach : Charset → Charset → List ℕ → List ℕ → List ℕ → Type 0
+AppendsEach from to text old new =
+    (piece : List ℕ) × Spells to (map (stand_in from to) (chars from text)) piece
+    × (new ≡ old ++ piece)
 
 -- No character is lost, or the first one that is stands at this place.
 abbrev pub IsLostPlace : Charset → Charset → List ℕ → Option ℕ → Type 0

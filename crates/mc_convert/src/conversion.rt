@@ -1,36 +1,32 @@
-ghost use Rattle.mc_charset.specs.Chars.{chars, Spells, IsWellFormed};
+ghost use Rattle.mc_charset.specs.Chars.{IsWellFormed};
 ghost use Rattle.mc_convert.specs.Conversion.{
   IsConverted,
   IsFirstLost,
   IsLossless,
-  KeepsBytes,
-  HasSpellings,
   converted_text,
   is_binary,
-  stand_in,
 };
-ghost use Rattle.mc_convert.specs.Steps.{IsLostPlace, UnlessStopped};
-ghost use Rattle.std.specs.Bool.{OnTrue};
+ghost use Rattle.mc_convert.specs.Steps.{AppendsEach, IsLostPlace, UnlessStopped};
 ghost use Rattle.std.specs.Prelude.{
   ◌≡◌,
+  ◌++◌,
   ◌<◌,
-  [],
   IfOk,
   IfSome,
   OnOk,
+  OnErr,
   MatchOption,
   length,
-  map,
-  false,
+  take,
 };
 
+use crate::kept::keeps_text;
 use crate::padding::unit;
-use crate::plain::are_plain;
 use crate::steps::convert_each;
 use mc_base::{NoMemory, Text};
 use mc_charset::{
     Ascii, Binary, Charset, Encoding, Latin1, Ucs2, Utf8mb3, Utf8mb4, Utf16, Utf32, bytes_law,
-    char_count, chars_law, wider_law,
+    char_count,
 };
 use std::alloc::Global;
 
@@ -44,117 +40,95 @@ pub fn convert(alloc: Global, from: Charset, to: Charset, text: &[u8]) -> Result
     ensures well_formed { IfOk result (λ converted. IsWellFormed to converted) }
 {
     bytes_law(text);
-    match convert_once(alloc, from, to, text, false) {
-        Ok(converted) => Ok(converted.text),
+    let mut converted = Text::new(alloc);
+    match convert_into(from, to, text, &mut converted) {
+        Ok(()) => Ok(converted),
         Err(NoMemory) => Err(NoMemory),
     }
 }
 
-/// A text in another set, and the place of the first character that the set lacks, counted in
-/// characters from 0.
-#[derive(Drop)]
-pub(crate) struct Converted {
-    pub(crate) text: Text,
-    pub(crate) lost: Option<usize>,
-}
-
-/// The text in another set, in one turn. An exact conversion stops at the first lost character.
-pub(crate) fn convert_once(
-    alloc: Global,
-    from: Charset,
-    to: Charset,
-    text: &[u8],
-    exact: bool,
-) -> Result<Converted, NoMemory>
+/// Appends a well-formed text in another set, as `convert` gives it. After an error `out` is as it
+/// was.
+pub fn convert_into(from: Charset, to: Charset, text: &[u8], out: &mut Text) -> Result<(), NoMemory>
     requires { IsWellFormed from text.now }
-    ensures is { IfOk result (λ converted. UnlessStopped exact converted.lost
-        (IsConverted from to text.now converted.text)) }
-    ensures lost { IfOk result (λ converted. MatchOption converted.lost
-        (IsLossless from to text.now) (λ place. IsFirstLost from to text.now place)) }
-    ensures within { IfOk result (λ converted.
-        IfSome converted.lost (λ place. place < length text.now)) }
+    ensures ok { OnOk result (out.new ≡ out.old ++ converted_text from to text.now) }
+    ensures err { OnErr result (out.new ≡ out.old) }
 {
-    if is_binary(to) || keeps_bytes(from, to, text) {
-        return Ok(Converted {
-            text: Text::from_slice(alloc, text)?,
-            lost: None,
-        });
-    }
-    let mut converted = Text::new(alloc);
-    let lost = fill(from, to, text, exact, &mut converted)?;
-    Ok(Converted {
-        text: converted,
-        lost,
-    })
-}
-
-/// Whether the text is seen to have the same spelling in another set than binary: that set has each
-/// spelling of the first one, or both spell ASCII alike and the text is ASCII.
-fn keeps_bytes(from: Charset, to: Charset, text: &[u8]) -> bool
-    requires well_formed { IsWellFormed from text.now }
-    requires not_to_binary { is_binary to ≡ false }
-    ensures { OnTrue result (KeepsBytes from to text.now) }
-{
-    chars_law();
-    if has_spellings(to, from) {
-        return true;
-    }
-    are_plain(from, to, text)
-}
-
-/// Whether a set has each spelling of the other one: it is that one, or utf8mb4 beside utf8mb3, or
-/// utf16 beside ucs2.
-fn has_spellings(to: Charset, from: Charset) -> bool
-    ensures { OnTrue result (HasSpellings to from) }
-{
-    wider_law();
-    match (from, to) {
-        (Charset::Utf8mb3, Charset::Utf8mb4) => true,
-        (Charset::Ucs2, Charset::Utf16) => true,
-        _ => from == to,
+    let len = out.len();
+    match append(from, to, text, false, out) {
+        Ok(_) => Ok(()),
+        Err(NoMemory) => {
+            out.truncate(len);
+            Err(NoMemory)
+        }
     }
 }
 
-/// Converts each character into the empty text, for which room is made once.
-fn fill(
+/// Appends the text in the other set, in one turn, and gives the place of the first character that
+/// the set lacks, in characters from 0. An exact conversion stops there. After an error a part may
+/// be appended.
+pub(crate) fn append(
     from: Charset,
     to: Charset,
     text: &[u8],
     exact: bool,
     out: &mut Text,
 ) -> Result<Option<usize>, NoMemory>
-    requires empty { out.old ≡ [] }
-    requires well_formed { IsWellFormed from text.now }
-    ensures spells { IfOk result (λ lost. UnlessStopped exact lost
-        (Spells to (map (stand_in from to) (chars from text.now)) out.new)) }
+    requires { IsWellFormed from text.now }
+    ensures is { IfOk result (λ lost. UnlessStopped exact lost
+        (out.new ≡ out.old ++ converted_text from to text.now)) }
+    ensures lost { IfOk result (λ lost. MatchOption lost (IsLossless from to text.now)
+        (λ place. IsFirstLost from to text.now place)) }
+    ensures within { IfOk result (λ lost. IfSome lost (λ place. place < length text.now)) }
+    ensures err { OnErr result (take (length out.old) out.new ≡ out.old) }
+{
+    if keeps_text(from, to, text) {
+        out.extend_from_slice(text)?;
+        return Ok(None);
+    }
+    append_each(from, to, text, exact, out)
+}
+
+/// Appends each character of the text in another set than binary, for which room is made once.
+fn append_each(
+    from: Charset,
+    to: Charset,
+    text: &[u8],
+    exact: bool,
+    out: &mut Text,
+) -> Result<Option<usize>, NoMemory>
+    requires { IsWellFormed from text.now }
+    ensures appends { IfOk result (λ lost. UnlessStopped exact lost
+        (AppendsEach from to text.now out.old out.new)) }
     ensures lost { IfOk result (λ lost. IsLostPlace from to text.now lost) }
     ensures within { IfOk result (λ lost. IfSome lost (λ place. place < length text.now)) }
+    ensures err { OnErr result (take (length out.old) out.new ≡ out.old) }
 {
     out.reserve(room(from, to, text))?;
     match from {
-        Charset::Latin1 => fill_from::<Latin1>(to, text, exact, out),
-        Charset::Ascii => fill_from::<Ascii>(to, text, exact, out),
-        Charset::Utf8mb3 => fill_from::<Utf8mb3>(to, text, exact, out),
-        Charset::Utf8mb4 => fill_from::<Utf8mb4>(to, text, exact, out),
-        Charset::Ucs2 => fill_from::<Ucs2>(to, text, exact, out),
-        Charset::Utf16 => fill_from::<Utf16>(to, text, exact, out),
-        Charset::Utf32 => fill_from::<Utf32>(to, text, exact, out),
-        Charset::Binary => fill_from::<Binary>(to, text, exact, out),
+        Charset::Latin1 => append_from::<Latin1>(to, text, exact, out),
+        Charset::Ascii => append_from::<Ascii>(to, text, exact, out),
+        Charset::Utf8mb3 => append_from::<Utf8mb3>(to, text, exact, out),
+        Charset::Utf8mb4 => append_from::<Utf8mb4>(to, text, exact, out),
+        Charset::Ucs2 => append_from::<Ucs2>(to, text, exact, out),
+        Charset::Utf16 => append_from::<Utf16>(to, text, exact, out),
+        Charset::Utf32 => append_from::<Utf32>(to, text, exact, out),
+        Charset::Binary => append_from::<Binary>(to, text, exact, out),
     }
 }
 
-/// Converts from one set into any other.
-fn fill_from<F: Encoding>(
+/// Appends each character of a text in one set, in any other one.
+fn append_from<F: Encoding>(
     to: Charset,
     text: &[u8],
     exact: bool,
     out: &mut Text,
 ) -> Result<Option<usize>, NoMemory>
-    requires { out.old ≡ [] }
-    ensures spells { IfOk result (λ lost. UnlessStopped exact lost
-        (Spells to (map (stand_in F.set to) (chars F.set text.now)) out.new)) }
+    ensures appends { IfOk result (λ lost. UnlessStopped exact lost
+        (AppendsEach F.set to text.now out.old out.new)) }
     ensures lost { IfOk result (λ lost. IsLostPlace F.set to text.now lost) }
     ensures within { IfOk result (λ lost. IfSome lost (λ place. place < length text.now)) }
+    ensures err { OnErr result (take (length out.old) out.new ≡ out.old) }
 {
     match to {
         Charset::Latin1 => convert_each::<F, Latin1>(text, exact, out),
@@ -168,20 +142,18 @@ fn fill_from<F: Encoding>(
     }
 }
 
-/// Room for a converted text: what its characters take in a set of one width; in utf16 as much as
-/// they may take; in UTF-8 as much as they take now, which may be too little.
+/// Room for a converted text: in a set of one byte each as much as its characters may take, without
+/// a count; in another set of one width what they take; in utf16 as much as they may take; in UTF-8
+/// as much as they take now, which may be too little.
 fn room(from: Charset, to: Charset, text: &[u8]) -> usize
     requires { IsWellFormed from text.now }
 {
-    let count = count_at_most(from, text);
     match to {
-        Charset::Latin1 | Charset::Ascii | Charset::Binary => count,
+        Charset::Latin1 | Charset::Ascii | Charset::Binary => text.len() / unit(from),
         Charset::Utf8mb3 | Charset::Utf8mb4 => text.len(),
-        Charset::Ucs2 => count.saturating_mul(2),
-        Charset::Utf16 => count
-            .saturating_add(pairs_at_most(count, text.len()))
-            .saturating_mul(2),
-        Charset::Utf32 => count.saturating_mul(4),
+        Charset::Ucs2 => count_at_most(from, text).saturating_mul(2),
+        Charset::Utf16 => units_at_most(count_at_most(from, text), text.len()).saturating_mul(2),
+        Charset::Utf32 => count_at_most(from, text).saturating_mul(4),
     }
 }
 
@@ -196,10 +168,10 @@ fn count_at_most(set: Charset, text: &[u8]) -> usize
     }
 }
 
-/// How many of so many characters may be above U+FFFF, where these have four bytes each and the
-/// others at least one.
-fn pairs_at_most(count: usize, len: usize) -> usize {
-    count.min(len.saturating_sub(count) / 3)
+/// How many units so many characters may have in utf16, where those above U+FFFF have four bytes
+/// each and the others at least one.
+fn units_at_most(count: usize, len: usize) -> usize {
+    count.saturating_add(count.min(len.saturating_sub(count) / 3))
 }
 
 /// Whether the set is binary.

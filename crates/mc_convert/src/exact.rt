@@ -3,7 +3,7 @@ ghost use Rattle.mc_convert.specs.Conversion.{converted_text};
 ghost use Rattle.mc_convert.specs.Exact.{IsExactly};
 ghost use Rattle.std.specs.Prelude.{◌≡◌, ◌<◌, ◌^◌, IfOk, length};
 
-use crate::conversion::convert_once;
+use crate::conversion::append;
 use mc_base::{NoMemory, Text};
 use mc_charset::{Charset, bytes_law};
 use std::alloc::Global;
@@ -32,13 +32,12 @@ pub fn convert_exact(
     ensures well_formed { IfOk result (λ converted. IsWellFormed to converted) }
 {
     bytes_law(text);
-    match convert_once(alloc, from, to, text, true) {
-        Ok(converted) => match converted.lost {
-            Some(place) => Err(ConvertFault::Lossy {
-                place: place as u32,
-            }),
-            None => Ok(converted.text),
-        },
+    let mut converted = Text::new(alloc);
+    match append(from, to, text, true, &mut converted) {
+        Ok(Some(place)) => Err(ConvertFault::Lossy {
+            place: place as u32,
+        }),
+        Ok(None) => Ok(converted),
         Err(NoMemory) => Err(ConvertFault::NoMemory),
     }
 }

@@ -13,6 +13,7 @@ ghost use Rattle.std.specs.Prelude.{
   take,
   IfSome,
   OnOk,
+  OnErr,
 };
 
 use crate::plain::is_plain;
@@ -43,8 +44,9 @@ pub(crate) fn plain_front<F: Encoding>(text: &[u8]) -> Option<&[u8; 8]>
 #[inline(always)]
 pub(crate) fn put_plain<T: Encoding>(front: &[u8; 8], out: &mut Text) -> Result<(), NoMemory>
     requires { (k : ℕ) → slice_index front.now k < 0x80 }
-    ensures { OnOk result
+    ensures ok { OnOk result
         (option_map (λ piece. out.old ++ piece) (spell_all T.set front.now) ≡ Some out.new) }
+    ensures err { OnErr result (out.new ≡ out.old) }
 {
     match T::charset() {
         Charset::Latin1 | Charset::Ascii | Charset::Utf8mb3 | Charset::Utf8mb4 | Charset::Binary =>

@@ -1,6 +1,7 @@
 ghost use Rattle.mc_charset.specs.Chars.{IsWellFormed};
 ghost use Rattle.mc_charset.specs.declared.charset.Charset.TheVariants.{Binary};
 ghost use Rattle.mc_convert.specs.Classes.{Has, HasIn, IsRepertoire, cap_of, rank};
+ghost use Rattle.mc_convert.specs.Repertoires.{repertoire};
 ghost use Rattle.mc_convert.specs.declared.repertoire.Repertoire.{Repertoire};
 ghost use Rattle.std.specs.Prelude.{◌≡◌, ◌≤◌, ◌↔◌, IsTrue, max};
 
@@ -70,6 +71,15 @@ pub fn cap(set: Charset) -> Repertoire
 /// The least class that has every character of a well-formed text.
 /// For binary it is `Ascii` where all bytes are below 80, else `Bytes`.
 pub fn repertoire_of(set: Charset, text: &[u8]) -> Repertoire
+    requires { IsWellFormed set text.now }
+    ensures least { IsRepertoire set text.now result }
+    ensures is { result ≡ repertoire set text.now }
+{
+    class_in(set, text)
+}
+
+/// The repertoire of a text in a set.
+fn class_in(set: Charset, text: &[u8]) -> Repertoire
     requires { IsWellFormed set text.now }
     ensures { IsRepertoire set text.now result }
 {

@@ -1,17 +1,15 @@
-ghost use Rattle.mc_charset.specs.Chars.{spell, chars, Spells};
+ghost use Rattle.mc_charset.specs.Chars.{spell};
 ghost use Rattle.mc_convert.specs.Conversion.{fits, stand_in};
 ghost use Rattle.mc_convert.specs.Plain.{IsPlain};
-ghost use Rattle.mc_convert.specs.Steps.{IsLostPlace, Takes, UnlessStopped};
+ghost use Rattle.mc_convert.specs.Steps.{AppendsEach, IsLostPlace, Takes, UnlessStopped};
 ghost use Rattle.std.specs.Option.{option_map, option_or};
 ghost use Rattle.std.specs.Prelude.{
   ◌≡◌,
   ◌++◌,
   ◌<◌,
   ◌≤◌,
-  [],
   if◌then◌else◌,
   length,
-  map,
   take,
   IfOk,
   IfSome,
@@ -36,35 +34,48 @@ pub(crate) enum Taken {
 }
 
 /// Appends each character of the text in the other set, or `?` where that set lacks it. The place
-/// of the first one that it lacks, in characters from 0. An exact conversion stops there.
+/// of the first one that it lacks, in characters from 0. An exact conversion stops there. After an
+/// error a part may be appended.
 pub(crate) fn convert_each<F: Encoding, T: Encoding>(
     text: &[u8],
     exact: bool,
     out: &mut Text,
 ) -> Result<Option<usize>, NoMemory>
-    requires { out.old ≡ [] }
-    ensures spells { IfOk result (λ lost. UnlessStopped exact lost
-        (Spells T.set (map (stand_in F.set T.set) (chars F.set text.now)) out.new)) }
+    ensures appends { IfOk result (λ lost. UnlessStopped exact lost
+        (AppendsEach F.set T.set text.now out.old out.new)) }
     ensures lost { IfOk result (λ lost. IsLostPlace F.set T.set text.now lost) }
     ensures within { IfOk result (λ lost. IfSome lost (λ place. place < length text.now)) }
+    ensures err { OnErr result (take (length out.old) out.new ≡ out.old) }
 {
     chars_law();
     let mut place = 0;
     let mut lost = None;
     let mut rest = text;
+    let mut try_plain = true;
     loop {
-        match take_front::<F, T>(rest, out) {
+        match take_front::<F, T>(rest, try_plain, out) {
             Ok(Taken::Front { count, len, fit }) => {
                 lost = first_lost(lost, place, fit);
                 if exact && lost.is_some() {
                     return Ok(lost);
                 }
+                try_plain = count == FRONT_LEN || begins_above_7f(rest);
                 place += count;
                 rest = &rest[len..];
             }
             Ok(Taken::Nothing) => return Ok(lost),
             Err(NoMemory) => return Err(NoMemory),
         }
+    }
+}
+
+/// Whether the text's first byte is above 7F. Eight bytes that were not all ASCII are tried again
+/// only behind such a byte, since none can be ASCII before.
+#[inline(always)]
+fn begins_above_7f(text: &[u8]) -> bool {
+    match text {
+        [first, ..] => *first > 0x7F,
+        [] => false,
     }
 }
 
@@ -80,15 +91,21 @@ fn first_lost(lost: Option<usize>, place: usize, fit: bool) -> Option<usize>
     }
 }
 
-/// Takes some bytes of ASCII at once, or else a single character.
+/// Takes some bytes of ASCII at once, if these are to be tried, or else a single character.
 #[inline(always)]
-fn take_front<F: Encoding, T: Encoding>(text: &[u8], out: &mut Text) -> Result<Taken, NoMemory>
+fn take_front<F: Encoding, T: Encoding>(
+    text: &[u8],
+    try_plain: bool,
+    out: &mut Text,
+) -> Result<Taken, NoMemory>
     ensures { Takes F.set T.set text.now out.old out.new result }
 {
-    match plain_front::<F>(text) {
-        Some(front) => take_plain::<F, T>(text, front, out),
-        None => take_char::<F, T>(text, out),
+    if try_plain {
+        if let Some(front) = plain_front::<F>(text) {
+            return take_plain::<F, T>(text, front, out);
+        }
     }
+    take_char::<F, T>(text, out)
 }
 
 /// Appends the characters of these bytes, which stand at the front of the text.

@@ -4,3 +4,5 @@
 
 #[cfg(test)]
 mod conversion_tests;
+#[cfg(test)]
+mod joined_tests;

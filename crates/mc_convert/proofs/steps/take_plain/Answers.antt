@@ -6,4 +6,4 @@ pub returns-in-Ok : goal.returns-in-Ok
 returns-in-Ok g c =
     TakesFront-plain g.F.Encoding.set g.T.Encoding.set c.args.text.now c.args.out.now c.put_plain.new.out
     c.args.front.now 8 (c.chars_law.ensures.fronts g.F.Encoding.set) c.requires.front
-    (omega arith) c.requires.within (omega arith) c.requires.plain c.in-Ok.ensures
+    (omega arith) c.requires.within (omega arith) c.requires.plain c.in-Ok.ensures.ok
