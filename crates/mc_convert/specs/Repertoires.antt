@@ -24,7 +24,7 @@ class_has_in Binary Bytes byte = true
 class_has_in Binary class byte = nat_lt byte 0x80
 class_has_in set class code = class_has class code
 
--- the repertoire of a text: the first class of the chain that has each of its characters
+-- The repertoire of a text: the first class of the chain that has each of its characters
 unfoldable pub repertoire : Charset → List ℕ → Repertoire
 repertoire set text =
     unwrap_or (find (λ class. list_all (class_has_in set class) (chars set text))
