@@ -1,5 +1,6 @@
 -- The ways through the functions that read arguments behind commas.
-use Rattle.std.proofs.Common.{◌≡◌, refl, sym, ap, ◌∙◌, subst, ℕ, suc, ◌+◌, ◌<◌, ◌≤◌, Bool, true, false, not, ◌&&◌, List, [], ◌∷◌, ◌++◌, IsTrue, length, arith}
+use Rattle.std.proofs.Common.{◌≡◌, refl, sym, ap, ◌∙◌, subst, ℕ, suc, ◌+◌, ◌<◌, ◌≤◌, Bool, true}
+use Rattle.std.proofs.Common.{false, not, ◌&&◌, List, [], ◌∷◌, ◌++◌, IsTrue, length, arith}
 use Rattle.mc_base.specs.declared.span.Span.{Span}
 use Rattle.mc_token.specs.declared.lexeme.Lexeme.TheVariants.{Sym}
 use Rattle.mc_token.specs.declared.lexeme.Symbol.TheVariants.{RightParen, Comma}
@@ -18,11 +19,14 @@ use Rattle.mc_parse.specs.declared.operand.Operand.{Operand as Found}
 use Rattle.mc_parse.specs.Language.{language, at, behind, behind_at}
 use Rattle.mc_parse.specs.Place.{is_missing, span_at, IsNext}
 use Rattle.mc_parse.specs.Read.{IsFault, as_operand, IsOperandAt}
-use Rattle.mc_parse.specs.Calls.{IsInCall, IsCallRead, IsCallFault, IsClosed, IsUnclosed, IsPushed, HasOrs}
+use Rattle.mc_parse.specs.Calls.{IsInCall, IsCallRead, IsCallFault, IsClosed, IsUnclosed, IsPushed}
+use Rattle.mc_parse.specs.Calls.{HasOrs}
 use Rattle.mc_parse.specs.Lists.{IsListed}
 use Rattle.mc_parse.proofs.Listing.{IsListing, lists_none, lists_link, lists_all}
-use Rattle.mc_parse.proofs.Ways.{sound, both_missing, sees_missing, is_fault, is_link_fault, link_shorter}
-use Rattle.mc_parse.proofs.CallSteps.{in_token, in_rule, in_fault, in_missed, in_closed, in_unclosed}
+use Rattle.mc_parse.proofs.Ways.{sound, both_missing, sees_missing, is_fault, is_link_fault}
+use Rattle.mc_parse.proofs.Ways.{link_shorter}
+use Rattle.mc_parse.proofs.CallSteps.{in_token, in_rule, in_fault, in_missed, in_closed}
+use Rattle.mc_parse.proofs.CallSteps.{in_unclosed}
 
 -- Operands behind commas are read, and appended to a list.
 pub record IsArguing (below : ℕ) (tokens rest : List Token) (old now : List Expr) : Type 0 where
@@ -34,7 +38,8 @@ pub ors_none : {below : ℕ} {tokens : List Token} {old : List Expr}
     → IsArguing below tokens tokens old old
 ors_none = record { last = _; listing = lists_none }
 
-ors_here : (below : ℕ) (tokens : List Token) (s : Span) (v w : List Token) (old now next : List Expr)
+ors_here : (below : ℕ) (tokens : List Token) (s : Span) (v w : List Token)
+    (old now next : List Expr)
     → IsArguing below tokens (record { span = s; kind = Sym Comma } ∷ v) old now
     → IsPushed below v w now next → IsArguing below tokens w old next
 unfolding behind behind_at
@@ -42,14 +47,16 @@ ors_here below tokens s v w old now next p o = record {
   last = span_from p.last (record { span = s; kind = Sym Comma } ∷ o.read.done.front);
   listing = lists_link o.member p.listing
       (read_rule language sound (take_token language sound
-      (choose language sound (sees_next language sound _)) refl) o.read.done refl refl (omega arith))
+      (choose language sound (sees_next language sound _)) refl) o.read.done refl refl
+      (omega arith))
       (λ later others. refl) o.listed refl (omega arith);
 }
 
 pub ors_link : {below : ℕ} {tokens rest v w : List Token} {old now next : List Expr}
     → IsArguing below tokens rest old now → IsNext (Sym Comma) rest v
     → IsPushed below v w now next → IsArguing below tokens w old next
-ors_link {below = below} {tokens = tokens} {v = v} {w = w} {old = old} {now = now} {next = next} p n o =
+ors_link {below = below} {tokens = tokens} {v = v} {w = w} {old = old} {now = now} {next = next}
+    p n o =
     ors_here below tokens n.span v w old now next
     (subst (λ (z : List Token). IsArguing below tokens z old now) n.same p) o
 
@@ -102,7 +109,8 @@ pub comma_missed : {below : ℕ} {name : List ℕ} {tokens v : List Token} {x : 
 unfolding behind behind_at
 comma_missed h e p = in_missed (mark Comma ∷ []) p (both_missing _ _ h refl) refl e
 
-pub second_missed : {below : ℕ} {name : List ℕ} {tokens v w : List Token} {x : Operand} {fault : Fault}
+pub second_missed : {below : ℕ} {name : List ℕ} {tokens v w : List Token} {x : Operand}
+    {fault : Fault}
     → IsNext (Sym Comma) v w → IsFault (behind_at false rule.or) rule.or below w fault
     → IsInCall name below 3 (rule.many_call ∷ []) (operand x ∷ []) tokens v
     → IsCallFault below tokens fault

@@ -1,5 +1,6 @@
 -- What the kind of a token tells of strings, introducers and the words of calls.
-use Rattle.std.proofs.Common.{◌≡◌, ◌≢◌, refl, sym, ap, ◌∙◌, subst, ℕ, Bool, true, false, not, ◌&&◌, ◌||◌, List, [], ◌∷◌, IsTrue, Option, Some, None, drop, codes}
+use Rattle.std.proofs.Common.{◌≡◌, ◌≢◌, refl, sym, ap, ◌∙◌, subst, ℕ, Bool, true, false, not, ◌&&◌}
+use Rattle.std.proofs.Common.{◌||◌, List, [], ◌∷◌, IsTrue, Option, Some, None, drop, codes}
 use Rattle.std.specs.Prelude.{is_none}
 use Rattle.std.specs.Str.{bytes_eq}
 use Rattle.mc_base.specs.declared.span.Span.{Span}
@@ -7,13 +8,15 @@ use Rattle.mc_token.specs.Keywords.{keyword_text, keyword_of, is_reserved as is_
 use Rattle.mc_token.specs.declared.keyword.Keyword.{Keyword as AKeyword}
 use Rattle.mc_token.specs.declared.keyword.Keyword.TheVariants as keyword
 use Rattle.mc_token.specs.declared.kind.TokenKind.{TokenKind}
-use Rattle.mc_token.specs.declared.kind.TokenKind.TheVariants.{Keyword, Introducer, Word, Name, Int, Str, National, Hex, Sym}
+use Rattle.mc_token.specs.declared.kind.TokenKind.TheVariants.{Keyword, Introducer, Word, Name, Int}
+use Rattle.mc_token.specs.declared.kind.TokenKind.TheVariants.{Str, National, Hex, Sym}
 use Rattle.mc_token.specs.declared.lexeme.Lexeme.{Lexeme}
 use Rattle.mc_token.specs.declared.lexeme.Lexeme.TheVariants as lexeme
 use Rattle.mc_token.specs.declared.lexeme.Token.{Token}
 use Rattle.mc_sql.specs.Classes.{national, hex, intro, called, is_intro, is_called, is_lexeme_of}
 use Rattle.mc_ast.specs.Values.{lexeme_text}
-use Rattle.mc_parse.specs.Place.{is_kind, is_at, is_missing, is_intro_kind, is_called_kind, text_at, IsNext, IsTextOf}
+use Rattle.mc_parse.specs.Place.{is_kind, is_at, is_missing, is_intro_kind, is_called_kind, text_at}
+use Rattle.mc_parse.specs.Place.{IsNext, IsTextOf}
 use Rattle.mc_parse.proofs.TokenKinds.{test_false, both_parts, same_bytes, otherwise_spelled}
 
 pub national_next : (kind : Option TokenKind) (tokens : List Token) → IsTrue (is_at kind tokens)
@@ -194,7 +197,8 @@ word_intro : (kind : TokenKind) (w : List ℕ) → IsTrue (is_kind kind (lexeme.
     → is_intro_kind (Some kind) ≡ is_lexeme_of intro (lexeme.Word w)
 word_intro (Keyword k) w h = keyword_intro k ∙ ap is_intro (sym (same_bytes w (keyword_text k) h))
 word_intro (Introducer set) w h = sym ((both_parts (is_none (keyword_of w)) (is_intro w) h).1)
-word_intro Word w h = is_false (is_intro w) (both_parts (is_none (keyword_of w)) (not (is_intro w)) h).1
+word_intro Word w h = is_false (is_intro w)
+    (both_parts (is_none (keyword_of w)) (not (is_intro w)) h).1
   where
     is_false : (b : Bool) → IsTrue (not b) → false ≡ b
     is_false true k = cc
@@ -214,7 +218,8 @@ kind_intro _ _ h = cc
 
 word_called : (kind : TokenKind) (w : List ℕ) → IsTrue (is_kind kind (lexeme.Word w))
     → is_called_kind (Some kind) ≡ is_lexeme_of called (lexeme.Word w)
-word_called (Keyword k) w h = keyword_called k ∙ ap is_called (sym (same_bytes w (keyword_text k) h))
+word_called (Keyword k) w h = keyword_called k ∙ ap is_called
+    (sym (same_bytes w (keyword_text k) h))
 word_called (Introducer set) w h =
     otherwise_called w (both_parts (is_none (keyword_of w)) (is_intro w) h).0
 word_called Word w h =
@@ -269,3 +274,12 @@ called_missing None (t ∷ ts) h n = cc
 called_missing (Some kind) [] h n = cc
 called_missing (Some kind) (t ∷ ts) h n =
     ap (λ (b : Bool). not b) (sym (kind_called kind t.kind h) ∙ n)
+
+-- The ways through each function, by its name.
+pub ruleset national_ways = (national_next, national_missing)
+
+pub ruleset hex_ways = (hex_next, hex_missing)
+
+pub ruleset intro_ways = (intro_next, intro_missing)
+
+pub ruleset called_ways = (called_next, called_missing)

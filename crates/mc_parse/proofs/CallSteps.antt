@@ -1,5 +1,6 @@
 -- The steps of the ways through the functions that read calls.
-use Rattle.std.proofs.Common.{◌≡◌, refl, sym, ap, ◌∙◌, subst, ℕ, suc, ◌+◌, ◌≤◌, Bool, not, List, [], ◌∷◌, ◌++◌, IsTrue, Option, length, arith}
+use Rattle.std.proofs.Common.{◌≡◌, refl, sym, ap, ◌∙◌, subst, ℕ, suc, ◌+◌, ◌≤◌, Bool, not, List, []}
+use Rattle.std.proofs.Common.{◌∷◌, ◌++◌, IsTrue, Option, length, arith}
 use Rattle.std.specs.List.{list_any}
 use Rattle.mc_base.specs.declared.span.Span.{Span}
 use Rattle.mc_token.specs.declared.lexeme.Lexeme.{Lexeme}
@@ -8,7 +9,8 @@ use Rattle.mc_token.specs.declared.lexeme.Symbol.TheVariants.{LeftParen, RightPa
 use Rattle.mc_token.specs.declared.lexeme.Token.{Token}
 use Rattle.mc_grammar.specs.Grammar.{rule}
 use Rattle.mc_grammar.specs.Ahead.{Ahead, every, is_within_next}
-use Rattle.mc_grammar.specs.Places.{Place, behind_next, before, all_pass, all_out, kept, is_next, is_met, Sees, Inside, Done}
+use Rattle.mc_grammar.specs.Places.{Place, behind_next, before, all_pass, all_out, kept, is_next}
+use Rattle.mc_grammar.specs.Places.{is_met, Sees, Inside, Done}
 use Rattle.mc_grammar.specs.Room.{Roomed, Admitted}
 use Rattle.mc_grammar.proofs.Seeing.{sees_next}
 use Rattle.mc_grammar.proofs.Inside.{read}
@@ -26,8 +28,10 @@ use Rattle.mc_parse.specs.declared.operand.Operand.{Operand as Found}
 use Rattle.mc_parse.specs.Language.{language, at, behind}
 use Rattle.mc_parse.specs.Place.{are_missing, span_at, IsNext}
 use Rattle.mc_parse.specs.Read.{IsRead, IsFault, as_operand, IsOperand}
-use Rattle.mc_parse.specs.Calls.{call_places, IsInCall, IsCallRead, IsCallFault, IsClosed, IsUnclosed}
-use Rattle.mc_parse.proofs.Ways.{sound, let_in, both_missing, sees_missing, is_read, is_fault, is_missed}
+use Rattle.mc_parse.specs.Calls.{call_places, IsInCall, IsCallRead, IsCallFault, IsClosed}
+use Rattle.mc_parse.specs.Calls.{IsUnclosed}
+use Rattle.mc_parse.proofs.Ways.{sound, let_in, both_missing, sees_missing, is_read, is_fault}
+use Rattle.mc_parse.proofs.Ways.{is_missed}
 
 -- What is let through where none of the classes is next.
 abbrev pub none_of : List Class → Option (Admitted Class) → Bool
@@ -37,30 +41,35 @@ none_of ks k = not (list_any (λ o. is_within_next language.tables.is_within k o
 pub in_token : {name : List ℕ} {below taken : ℕ} {as' : List Alternative} {vs : List Value}
     {tokens rest v : List Token} {x : Lexeme} → IsInCall name below taken as' vs tokens rest
     → (n : IsNext x rest v)
-    → IsTrue (every (λ p. is_next language (language.bound (record { span = n.span; kind = x })) p.left)
+    → IsTrue (every (λ p. is_next language (language.bound (record { span = n.span; kind = x }))
+    p.left)
     (call_places below taken as'))
     → behind_next (call_places below taken as') ≡ call_places below (suc taken) as'
-    → IsInCall name below (suc taken) as' (vs ++ (a_token (record { span = n.span; kind = x }) ∷ []))
+    → IsInCall name below (suc taken) as'
+    (vs ++ (a_token (record { span = n.span; kind = x }) ∷ []))
     tokens v
-in_token {name = name} {below = below} {taken = taken} {as' = as'} {vs = vs} {tokens = tokens} {v = v} {x = x} p n h e = record {
-  first = p.first;
-  second = p.second;
-  others = p.others ++ (record { span = n.span; kind = x } ∷ []);
-  inside = subst (λ (ps : List (Place (Admitted Class) (Roomed Rule) (Roomed Alternative))).
-      Inside language (behind call) 1 (at (suc below) call) ps
-      (a_token (record { span = p.first; kind = Word name })
-      ∷ a_token (record { span = p.second; kind = Sym LeftParen })
-      ∷ (vs ++ (a_token (record { span = n.span; kind = x }) ∷ []))) tokens
-      (record { span = p.first; kind = Word name } ∷ record { span = p.second; kind = Sym LeftParen }
-      ∷ (p.others ++ (record { span = n.span; kind = x } ∷ []))) v) e
-      (widen language sound (take_token language sound
-      (subst (λ (r : List Token). Inside language (behind call) 1 (at (suc below) call)
-      (call_places below taken as')
-      (a_token (record { span = p.first; kind = Word name })
-      ∷ a_token (record { span = p.second; kind = Sym LeftParen }) ∷ vs) tokens
-      (record { span = p.first; kind = Word name } ∷ record { span = p.second; kind = Sym LeftParen }
-      ∷ p.others) r) n.same p.inside) h) (omega arith));
-}
+in_token {name = name} {below = below} {taken = taken} {as' = as'} {vs = vs} {tokens = tokens}
+    {v = v} {x = x} p n h e = record {
+      first = p.first;
+      second = p.second;
+      others = p.others ++ (record { span = n.span; kind = x } ∷ []);
+      inside = subst (λ (ps : List (Place (Admitted Class) (Roomed Rule) (Roomed Alternative))).
+          Inside language (behind call) 1 (at (suc below) call) ps
+          (a_token (record { span = p.first; kind = Word name })
+          ∷ a_token (record { span = p.second; kind = Sym LeftParen })
+          ∷ (vs ++ (a_token (record { span = n.span; kind = x }) ∷ []))) tokens
+          (record { span = p.first; kind = Word name } ∷ record
+          { span = p.second; kind = Sym LeftParen }
+          ∷ (p.others ++ (record { span = n.span; kind = x } ∷ []))) v) e
+          (widen language sound (take_token language sound
+          (subst (λ (r : List Token). Inside language (behind call) 1 (at (suc below) call)
+          (call_places below taken as')
+          (a_token (record { span = p.first; kind = Word name })
+          ∷ a_token (record { span = p.second; kind = Sym LeftParen }) ∷ vs) tokens
+          (record { span = p.first; kind = Word name } ∷ record
+          { span = p.second; kind = Sym LeftParen }
+          ∷ p.others) r) n.same p.inside) h) (omega arith));
+    }
 
 -- A rule is read that all places want next.
 pub in_rule : {name : List ℕ} {below taken : ℕ} {as' : List Alternative} {vs : List Value}
@@ -84,21 +93,23 @@ pub in_next : {name : List ℕ} {below taken : ℕ} {as' bs : List Alternative} 
     → kept language (λ k. is_met language k (record { span = n.span; kind = x } ∷ v)) (behind call)
     (call_places below taken as') ≡ call_places below taken bs
     → IsInCall name below taken bs vs tokens rest
-in_next {name = name} {below = below} {taken = taken} {vs = vs} {tokens = tokens} {rest = rest} {v = v} {x = x} p n e = record {
-  first = p.first;
-  second = p.second;
-  others = p.others;
-  inside = subst (λ (ps : List (Place (Admitted Class) (Roomed Rule) (Roomed Alternative))).
-      Inside language (behind call) 1 (at (suc below) call) ps
-      (a_token (record { span = p.first; kind = Word name })
-      ∷ a_token (record { span = p.second; kind = Sym LeftParen }) ∷ vs) tokens
-      (record { span = p.first; kind = Word name } ∷ record { span = p.second; kind = Sym LeftParen }
-      ∷ p.others) rest) e
-      (look language sound p.inside
-      (subst (λ (r : List Token). Sees language 1 r
-      (λ k. is_met language k (record { span = n.span; kind = x } ∷ v))) (sym n.same)
-      (sees_next language sound (record { span = n.span; kind = x } ∷ v))));
-}
+in_next {name = name} {below = below} {taken = taken} {vs = vs} {tokens = tokens} {rest = rest}
+    {v = v} {x = x} p n e = record {
+      first = p.first;
+      second = p.second;
+      others = p.others;
+      inside = subst (λ (ps : List (Place (Admitted Class) (Roomed Rule) (Roomed Alternative))).
+          Inside language (behind call) 1 (at (suc below) call) ps
+          (a_token (record { span = p.first; kind = Word name })
+          ∷ a_token (record { span = p.second; kind = Sym LeftParen }) ∷ vs) tokens
+          (record { span = p.first; kind = Word name } ∷ record
+          { span = p.second; kind = Sym LeftParen }
+          ∷ p.others) rest) e
+          (look language sound p.inside
+          (subst (λ (r : List Token). Sees language 1 r
+          (λ k. is_met language k (record { span = n.span; kind = x } ∷ v))) (sym n.same)
+          (sees_next language sound (record { span = n.span; kind = x } ∷ v))));
+    }
 
 -- None of the classes is next, and only these alternatives want another.
 pub in_missing : {name : List ℕ} {below taken : ℕ} {as' bs : List Alternative} {vs : List Value}
@@ -107,18 +118,20 @@ pub in_missing : {name : List ℕ} {below taken : ℕ} {as' bs : List Alternativ
     → kept language (λ k. none_of ks k) (behind call) (call_places below taken as')
     ≡ call_places below taken bs
     → IsInCall name below taken bs vs tokens rest
-in_missing {name = name} {below = below} {taken = taken} {vs = vs} {tokens = tokens} {rest = rest} ks p h e = record {
-  first = p.first;
-  second = p.second;
-  others = p.others;
-  inside = subst (λ (ps : List (Place (Admitted Class) (Roomed Rule) (Roomed Alternative))).
-      Inside language (behind call) 1 (at (suc below) call) ps
-      (a_token (record { span = p.first; kind = Word name })
-      ∷ a_token (record { span = p.second; kind = Sym LeftParen }) ∷ vs) tokens
-      (record { span = p.first; kind = Word name } ∷ record { span = p.second; kind = Sym LeftParen }
-      ∷ p.others) rest) e
-      (look language sound p.inside (sees_missing ks rest h));
-}
+in_missing {name = name} {below = below} {taken = taken} {vs = vs} {tokens = tokens} {rest = rest}
+    ks p h e = record {
+      first = p.first;
+      second = p.second;
+      others = p.others;
+      inside = subst (λ (ps : List (Place (Admitted Class) (Roomed Rule) (Roomed Alternative))).
+          Inside language (behind call) 1 (at (suc below) call) ps
+          (a_token (record { span = p.first; kind = Word name })
+          ∷ a_token (record { span = p.second; kind = Sym LeftParen }) ∷ vs) tokens
+          (record { span = p.first; kind = Word name } ∷ record
+          { span = p.second; kind = Sym LeftParen }
+          ∷ p.others) rest) e
+          (look language sound p.inside (sees_missing ks rest h));
+    }
 
 -- A rule that all places want next is not read.
 pub in_fault : {name : List ℕ} {below taken : ℕ} {a : Alternative} {as' : List Alternative}
@@ -127,7 +140,8 @@ pub in_fault : {name : List ℕ} {below taken : ℕ} {a : Alternative} {as' : Li
     → IsFault after q below' rest fault
     → call_places below taken (a ∷ as')
     ≡ before (rule (at below' q)) (behind_next (call_places below taken (a ∷ as')))
-    → IsTrue (all_pass language (behind call) (behind_next (call_places below taken (a ∷ as'))) after)
+    → IsTrue (all_pass language (behind call) (behind_next (call_places below taken (a ∷ as')))
+    after)
     → IsCallFault below tokens fault
 in_fault p o e h = is_fault p.inside o e h (omega arith)
 
@@ -135,7 +149,8 @@ in_fault p o e h = is_fault p.inside o e h (omega arith)
 pub in_missed : {name : List ℕ} {below taken : ℕ} {a : Alternative} {as' : List Alternative}
     {vs : List Value} {tokens rest : List Token} {left : ℕ} (ks : List Class)
     → IsInCall name below taken (a ∷ as') vs tokens rest → IsTrue (are_missing ks rest)
-    → IsTrue (all_out language (λ k. none_of ks k) (behind call) (call_places below taken (a ∷ as')))
+    → IsTrue (all_out language (λ k. none_of ks k) (behind call)
+    (call_places below taken (a ∷ as')))
     → left ≡ length rest → IsCallFault below tokens (NoReading left)
 in_missed {below = below} {tokens = tokens} {rest = rest} ks p h k e =
     subst (λ (n : ℕ). IsCallFault below tokens (NoReading n)) (sym e)
@@ -178,11 +193,14 @@ pub in_closed : {name : List ℕ} {below taken : ℕ} {a : Alternative} {vs : Li
     (call_places below taken (a ∷ []))))
     → behind_next (call_places below taken (a ∷ []))
     ≡ record { alternative = record { what = a; room = suc (suc below) }; left = [] } ∷ []
-    → ((e first second last : Span) → meaning a e (a_token (record { span = first; kind = Word name })
+    → ((e first second last : Span) → meaning a e
+    (a_token (record { span = first; kind = Word name })
     ∷ a_token (record { span = second; kind = Sym LeftParen })
-    ∷ (vs ++ (a_token (record { span = last; kind = Sym RightParen }) ∷ []))) ≡ operand (whole e form))
+    ∷ (vs ++ (a_token (record { span = last; kind = Sym RightParen }) ∷ []))) ≡ operand
+    (whole e form))
     → IsCallRead below tokens v span form
-in_closed {name = name} {below = below} {taken = taken} {a = a} {vs = vs} {tokens = tokens} {rest = rest} {v = v} {span = span} {form = form} p c h e means =
+in_closed {name = name} {below = below} {taken = taken} {a = a} {vs = vs} {tokens = tokens}
+    {rest = rest} {v = v} {span = span} {form = form} p c h e means =
     subst (λ (s : Span). IsCallRead below tokens v s form)
     (sym (c.whole ∙ ap (λ (s : Span). from_to s (span_at rest)) (first_of_call p)
     ∙ ap (λ (r : List Token). from_to p.first (span_at r)) c.next.same))
@@ -234,5 +252,6 @@ pub call_found : {below : ℕ} {tokens rest : List Token} {span : Span} {form : 
     → IsCallRead below tokens rest span form → as_operand x ≡ whole span form
     → IsOperand call (suc below) tokens rest x
 call_found {below = below} {tokens = tokens} {rest = rest} x p h =
-    subst (λ (z : Operand). IsRead (behind call) 1 call (suc below) tokens rest (operand z) z.extent)
+    subst (λ (z : Operand). IsRead (behind call) 1 call (suc below) tokens rest
+    (operand z) z.extent)
     (sym h) p

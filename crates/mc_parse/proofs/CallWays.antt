@@ -1,5 +1,7 @@
 -- The ways through the functions that read calls.
-use Rattle.std.proofs.Common.{◌≡◌, refl, sym, ap, ◌∙◌, subst, ℕ, suc, ◌+◌, ◌≤◌, Bool, true, false, not, ◌&&◌, ◌||◌, List, [], ◌∷◌, ◌++◌, IsTrue, length, map, append-nil, append_assoc, arith, codes}
+use Rattle.std.proofs.Common.{◌≡◌, refl, sym, ap, ◌∙◌, subst, ℕ, suc, ◌+◌, ◌≤◌, Bool, true, false}
+use Rattle.std.proofs.Common.{not, ◌&&◌, ◌||◌, List, [], ◌∷◌, ◌++◌, IsTrue, length, map, append-nil}
+use Rattle.std.proofs.Common.{append_assoc, arith, codes}
 use Rattle.std.specs.Str.{bytes_eq}
 use Rattle.mc_base.specs.declared.span.Span.{Span}
 use Rattle.mc_token.specs.Keywords.{keyword_of}
@@ -10,23 +12,28 @@ use Rattle.mc_token.specs.declared.lexeme.Token.{Token}
 use Rattle.mc_grammar.proofs.Inside.{enter}
 use Rattle.mc_grammar.proofs.Seeing.{sees_next}
 use Rattle.mc_grammar.proofs.Ways.{choose, take_token, read_rule, widen}
-use Rattle.mc_sql.specs.Classes.{Class, word, mark, called, called_otherwise, is_lexeme_of, is_intro, is_called}
+use Rattle.mc_sql.specs.Classes.{Class, word, mark, called, called_otherwise, is_lexeme_of}
+use Rattle.mc_sql.specs.Classes.{is_intro, is_called}
 use Rattle.mc_sql.specs.Rules as rule
 use Rattle.mc_ast.specs.declared.expr.Form.TheVariants as form
 use Rattle.mc_ast.specs.Grouping.{whole}
 use Rattle.mc_ast.specs.Values.{Value, Operand, operand, Collation, collation, lexeme_text}
 use Rattle.mc_parse.specs.declared.call.CallWord.{CallWord}
-use Rattle.mc_parse.specs.declared.call.CallWord.TheVariants.{Convert, Cast, Count, Trim, Substring, WeightString, Other}
+use Rattle.mc_parse.specs.declared.call.CallWord.TheVariants.{Convert, Cast, Count, Trim, Substring}
+use Rattle.mc_parse.specs.declared.call.CallWord.TheVariants.{WeightString, Other}
 use Rattle.mc_parse.specs.declared.fault.Fault.{Fault}
 use Rattle.mc_parse.specs.declared.fault.Fault.TheVariants.{NoReading, TooDeep}
 use Rattle.mc_parse.specs.declared.operand.Operand.{Operand as Found}
 use Rattle.mc_parse.specs.Language.{language, at, behind, behind_at}
 use Rattle.mc_parse.specs.Place.{is_missing, are_missing, span_at, IsNext, IsTextOf}
 use Rattle.mc_parse.specs.Read.{IsRead, IsFault, as_operand, IsOperand, IsOperandAt}
-use Rattle.mc_parse.specs.Calls.{call_words, call_places, IsOther, IsCallWord, IsOpened, IsInCall, IsCallRead, IsCallFault, IsClosed, IsUnclosed}
+use Rattle.mc_parse.specs.Calls.{call_words, call_places, IsOther, IsCallWord, IsOpened, IsInCall}
+use Rattle.mc_parse.specs.Calls.{IsCallRead, IsCallFault, IsClosed, IsUnclosed}
 use Rattle.mc_parse.proofs.TokenKinds.{both_parts}
-use Rattle.mc_parse.proofs.Ways.{sound, both_missing, sees_missing, is_fault, is_missed, is_barred_here}
-use Rattle.mc_parse.proofs.CallSteps.{in_token, in_rule, in_next, in_missing, in_fault, in_missed, in_closed, in_unclosed, call_found}
+use Rattle.mc_parse.proofs.Ways.{sound, both_missing, sees_missing, is_fault, is_missed}
+use Rattle.mc_parse.proofs.Ways.{is_barred_here}
+use Rattle.mc_parse.proofs.CallSteps.{in_token, in_rule, in_next, in_missing, in_fault, in_missed}
+use Rattle.mc_parse.proofs.CallSteps.{in_closed, in_unclosed, call_found}
 
 -- Words and parentheses
 
@@ -159,11 +166,13 @@ cast_deep s s' v =
 count_opened : (below : ℕ) (tokens v w : List Token)
     → IsNext (Word (codes "count")) tokens v → IsNext (Sym LeftParen) v w
     → IsInCall (codes "count") below 2
-    (rule.count_all_call ∷ rule.count_distinct_call ∷ rule.empty_call ∷ rule.single_call ∷ rule.many_call ∷ []) [] tokens w
+    (rule.count_all_call ∷ rule.count_distinct_call ∷ rule.empty_call ∷ rule.single_call ∷
+    rule.many_call ∷ []) [] tokens w
 unfolding behind keyword_of is_intro is_called
 count_opened below tokens v w n o =
     subst (λ (z : List Token). IsInCall (codes "count") below 2
-    (rule.count_all_call ∷ rule.count_distinct_call ∷ rule.empty_call ∷ rule.single_call ∷ rule.many_call ∷ []) [] z w)
+    (rule.count_all_call ∷ rule.count_distinct_call ∷ rule.empty_call ∷ rule.single_call ∷
+    rule.many_call ∷ []) [] z w)
     (sym (n.same ∙ ap (λ (z : List Token).
     record { span = n.span; kind = Word (codes "count") } ∷ z) o.same))
     (record {
@@ -177,12 +186,14 @@ count_opened below tokens v w n o =
 pub opened_count : {below : ℕ} {kind : CallWord} {name : List ℕ} {tokens rest : List Token}
     → kind ≡ Count → IsOpened kind name tokens rest
     → IsInCall (codes "count") below 2
-    (rule.count_all_call ∷ rule.count_distinct_call ∷ rule.empty_call ∷ rule.single_call ∷ rule.many_call ∷ []) [] tokens rest
+    (rule.count_all_call ∷ rule.count_distinct_call ∷ rule.empty_call ∷ rule.single_call ∷
+    rule.many_call ∷ []) [] tokens rest
 opened_count {below = below} {name = name} {tokens = tokens} {rest = rest} e o =
     by_kind (subst (λ (k : CallWord). IsOpened k name tokens rest) e o)
   where
     by_kind : IsOpened Count name tokens rest → IsInCall (codes "count") below 2
-        (rule.count_all_call ∷ rule.count_distinct_call ∷ rule.empty_call ∷ rule.single_call ∷ rule.many_call ∷ []) [] tokens rest
+        (rule.count_all_call ∷ rule.count_distinct_call ∷ rule.empty_call ∷ rule.single_call
+        ∷ rule.many_call ∷ []) [] tokens rest
     by_kind p = count_opened below tokens p.between rest p.begins.1 p.opens
 
 count_unopened : (below : ℕ) (s : Span) (v : List Token) → IsTrue (is_missing (mark LeftParen) v)
@@ -205,11 +216,13 @@ count_deep s s' v =
 trim_opened : (below : ℕ) (tokens v w : List Token)
     → IsNext (Word (codes "trim")) tokens v → IsNext (Sym LeftParen) v w
     → IsInCall (codes "trim") below 2
-    (rule.trim_side_call ∷ rule.trim_call ∷ rule.empty_call ∷ rule.single_call ∷ rule.many_call ∷ []) [] tokens w
+    (rule.trim_side_call ∷ rule.trim_call ∷ rule.empty_call ∷ rule.single_call ∷ rule.many_call ∷
+    []) [] tokens w
 unfolding behind keyword_of is_intro is_called
 trim_opened below tokens v w n o =
     subst (λ (z : List Token). IsInCall (codes "trim") below 2
-    (rule.trim_side_call ∷ rule.trim_call ∷ rule.empty_call ∷ rule.single_call ∷ rule.many_call ∷ []) [] z w)
+    (rule.trim_side_call ∷ rule.trim_call ∷ rule.empty_call ∷ rule.single_call ∷ rule.many_call ∷
+    []) [] z w)
     (sym (n.same ∙ ap (λ (z : List Token).
     record { span = n.span; kind = Word (codes "trim") } ∷ z) o.same))
     (record {
@@ -223,12 +236,14 @@ trim_opened below tokens v w n o =
 pub opened_trim : {below : ℕ} {kind : CallWord} {name : List ℕ} {tokens rest : List Token}
     → kind ≡ Trim → IsOpened kind name tokens rest
     → IsInCall (codes "trim") below 2
-    (rule.trim_side_call ∷ rule.trim_call ∷ rule.empty_call ∷ rule.single_call ∷ rule.many_call ∷ []) [] tokens rest
+    (rule.trim_side_call ∷ rule.trim_call ∷ rule.empty_call ∷ rule.single_call ∷ rule.many_call ∷
+    []) [] tokens rest
 opened_trim {below = below} {name = name} {tokens = tokens} {rest = rest} e o =
     by_kind (subst (λ (k : CallWord). IsOpened k name tokens rest) e o)
   where
     by_kind : IsOpened Trim name tokens rest → IsInCall (codes "trim") below 2
-        (rule.trim_side_call ∷ rule.trim_call ∷ rule.empty_call ∷ rule.single_call ∷ rule.many_call ∷ []) [] tokens rest
+        (rule.trim_side_call ∷ rule.trim_call ∷ rule.empty_call ∷ rule.single_call ∷ rule.many_call
+        ∷ []) [] tokens rest
     by_kind p = trim_opened below tokens p.between rest p.begins.1 p.opens
 
 trim_unopened : (below : ℕ) (s : Span) (v : List Token) → IsTrue (is_missing (mark LeftParen) v)
@@ -274,10 +289,12 @@ opened_substring {below = below} {name = name} {tokens = tokens} {rest = rest} e
     by_kind (subst (λ (k : CallWord). IsOpened k name tokens rest) e o)
   where
     by_kind : IsOpened Substring name tokens rest → IsInCall (codes "substring") below 2
-        (rule.substring_call ∷ rule.empty_call ∷ rule.single_call ∷ rule.many_call ∷ []) [] tokens rest
+        (rule.substring_call ∷ rule.empty_call ∷ rule.single_call ∷ rule.many_call ∷ []) [] tokens
+        rest
     by_kind p = substring_opened below tokens p.between rest p.begins.1 p.opens
 
-substring_unopened : (below : ℕ) (s : Span) (v : List Token) → IsTrue (is_missing (mark LeftParen) v)
+substring_unopened : (below : ℕ) (s : Span) (v : List Token) → IsTrue
+    (is_missing (mark LeftParen) v)
     → IsFault (behind rule.call) rule.call below
     (record { span = s; kind = Word (codes "substring") } ∷ v) (NoReading (length v))
 unfolding behind keyword_of is_intro is_called
@@ -323,7 +340,8 @@ opened_weight_string {below = below} {name = name} {tokens = tokens} {rest = res
         (rule.weight_string_call ∷ rule.empty_call ∷ rule.many_call ∷ []) [] tokens rest
     by_kind p = weight_string_opened below tokens p.between rest p.begins.1 p.opens
 
-weight_string_unopened : (below : ℕ) (s : Span) (v : List Token) → IsTrue (is_missing (mark LeftParen) v)
+weight_string_unopened : (below : ℕ) (s : Span) (v : List Token) → IsTrue
+    (is_missing (mark LeftParen) v)
     → IsFault (behind rule.call) rule.call below
     (record { span = s; kind = Word (codes "weight_string") } ∷ v) (NoReading (length v))
 unfolding behind keyword_of is_intro is_called
@@ -332,7 +350,8 @@ weight_string_unopened below s v h =
     (sees_missing (mark LeftParen ∷ []) v (both_missing _ _ h refl)) refl (omega arith)
 
 weight_string_deep : (s s' : Span) (v : List Token)
-    → IsFault (behind rule.call) rule.call 0 (record { span = s; kind = Word (codes "weight_string") }
+    → IsFault (behind rule.call) rule.call 0
+    (record { span = s; kind = Word (codes "weight_string") }
     ∷ record { span = s'; kind = Sym LeftParen } ∷ v)
     (TooDeep (length (record { span = s'; kind = Sym LeftParen } ∷ v)))
 unfolding behind keyword_of is_intro is_called
@@ -343,7 +362,11 @@ weight_string_deep s s' v =
 -- Any other word
 
 three_next : (a b c : Bool) → IsTrue a → IsTrue b → IsTrue c
-    → IsTrue (elim a [ true ↦ elim b [ true ↦ elim c [ true ↦ true | false ↦ false ] | false ↦ false ] | false ↦ false ])
+    → IsTrue (elim a [
+      | true ↦ elim b
+          [ true ↦ elim c [ true ↦ true | false ↦ false ] | false ↦ false ]
+      | false ↦ false
+    ])
 three_next true true true h k l = refl
 three_next true true false h k l = cc
 three_next true false c h k l = cc
@@ -378,18 +401,22 @@ other_opened below name s s' w h k =
       others = [];
       inside = widen language sound (take_token language sound (take_token language sound
           (choose language sound (sees_missing call_words _ k))
-          (three_next (is_called name) (is_called name && not (bytes_eq name (codes "weight_string")))
-          (is_called name) h (otherwise name s (record { span = s'; kind = Sym LeftParen } ∷ w) h k) h)) refl) (omega arith);
+          (three_next (is_called name)
+          (is_called name && not (bytes_eq name (codes "weight_string")))
+          (is_called name) h (otherwise name s (record { span = s'; kind = Sym LeftParen } ∷ w) h k)
+          h)) refl) (omega arith);
     }
 
 pub opened_other : {below : ℕ} {kind : CallWord} {name : List ℕ} {tokens rest : List Token}
     → kind ≡ Other → IsOpened kind name tokens rest
-    → IsInCall name below 2 (rule.empty_call ∷ rule.single_call ∷ rule.many_call ∷ []) [] tokens rest
+    → IsInCall name below 2 (rule.empty_call ∷ rule.single_call ∷ rule.many_call ∷ []) [] tokens
+    rest
 opened_other {below = below} {name = name} {tokens = tokens} {rest = rest} e o =
     by_kind (subst (λ (k : CallWord). IsOpened k name tokens rest) e o)
   where
     by_kind : IsOpened Other name tokens rest
-        → IsInCall name below 2 (rule.empty_call ∷ rule.single_call ∷ rule.many_call ∷ []) [] tokens rest
+        → IsInCall name below 2 (rule.empty_call ∷ rule.single_call ∷ rule.many_call ∷ []) [] tokens
+        rest
     by_kind p =
         let same : tokens ≡ record { span = p.begins.next.span; kind = Word name }
         ∷ record { span = p.opens.span; kind = Sym LeftParen } ∷ rest =
@@ -422,7 +449,8 @@ unfolding behind
 other_deep name s s' v h k =
     is_barred_here (take_token language sound (choose language sound (sees_missing call_words _ k))
     (three_next (is_called name) (is_called name && not (bytes_eq name (codes "weight_string")))
-    (is_called name) h (otherwise name s (record { span = s'; kind = Sym LeftParen } ∷ v) h k) h)) refl (omega arith)
+    (is_called name) h (otherwise name s (record { span = s'; kind = Sym LeftParen } ∷ v) h k) h))
+    refl (omega arith)
 
 -- The word is read, and no `(` is next.
 pub call_unopened : (kind : CallWord) (below : ℕ) (name : List ℕ) (tokens v : List Token) (left : ℕ)
@@ -446,7 +474,8 @@ call_unopened kind below name tokens v left w h e =
     by_kind Count w = carried (codes "count") w.1 (count_unopened below w.1.span v h)
     by_kind Trim w = carried (codes "trim") w.1 (trim_unopened below w.1.span v h)
     by_kind Substring w = carried (codes "substring") w.1 (substring_unopened below w.1.span v h)
-    by_kind WeightString w = carried (codes "weight_string") w.1 (weight_string_unopened below w.1.span v h)
+    by_kind WeightString w = carried (codes "weight_string") w.1
+        (weight_string_unopened below w.1.span v h)
     by_kind Other w = carried name w.next (other_unopened below name w.next.span v w.calls
         (subst (λ (z : List Token). IsTrue (are_missing call_words z)) w.next.same w.others) h)
 
@@ -456,20 +485,24 @@ pub call_deep : (kind : CallWord) (below : ℕ) (name : List ℕ) (tokens v u : 
     → IsFault (behind rule.call) rule.call below tokens (TooDeep left)
 call_deep kind below name tokens v u left none w o e =
     subst (λ (n : ℕ). IsFault (behind rule.call) rule.call below tokens (TooDeep n)) (sym e)
-    (subst (λ (b : ℕ). IsFault (behind rule.call) rule.call b tokens (TooDeep (length v))) (sym none)
+    (subst (λ (b : ℕ). IsFault (behind rule.call) rule.call b tokens (TooDeep (length v)))
+    (sym none)
     (by_kind kind w))
   where
     carried : (x : List ℕ) → (n : IsNext (Word x) tokens v)
         → IsFault (behind rule.call) rule.call 0
-        (record { span = n.span; kind = Word x } ∷ record { span = o.span; kind = Sym LeftParen } ∷ u)
+        (record { span = n.span; kind = Word x } ∷ record { span = o.span; kind = Sym LeftParen }
+        ∷ u)
         (TooDeep (length (record { span = o.span; kind = Sym LeftParen } ∷ u)))
         → IsFault (behind rule.call) rule.call 0 tokens (TooDeep (length v))
     carried x n f =
-        subst (λ (z : List Token). IsFault (behind rule.call) rule.call 0 tokens (TooDeep (length z)))
+        subst (λ (z : List Token). IsFault (behind rule.call) rule.call 0 tokens
+        (TooDeep (length z)))
         (sym o.same)
         (subst (λ (z : List Token). IsFault (behind rule.call) rule.call 0 z
         (TooDeep (length (record { span = o.span; kind = Sym LeftParen } ∷ u))))
-        (sym (n.same ∙ ap (λ (z : List Token). record { span = n.span; kind = Word x } ∷ z) o.same)) f)
+        (sym (n.same ∙ ap (λ (z : List Token). record { span = n.span; kind = Word x } ∷ z) o.same))
+        f)
 
     by_kind : (k : CallWord) → IsCallWord k name tokens v
         → IsFault (behind rule.call) rule.call 0 tokens (TooDeep (length v))
@@ -478,10 +511,12 @@ call_deep kind below name tokens v u left none w o e =
     by_kind Count w = carried (codes "count") w.1 (count_deep w.1.span o.span u)
     by_kind Trim w = carried (codes "trim") w.1 (trim_deep w.1.span o.span u)
     by_kind Substring w = carried (codes "substring") w.1 (substring_deep w.1.span o.span u)
-    by_kind WeightString w = carried (codes "weight_string") w.1 (weight_string_deep w.1.span o.span u)
+    by_kind WeightString w = carried (codes "weight_string") w.1
+        (weight_string_deep w.1.span o.span u)
     by_kind Other w = carried name w.next (other_deep name w.next.span o.span u w.calls
         (subst (λ (z : List Token). IsTrue (are_missing call_words z))
-        (w.next.same ∙ ap (λ (z : List Token). record { span = w.next.span; kind = Word name } ∷ z) o.same)
+        (w.next.same ∙ ap (λ (z : List Token). record { span = w.next.span; kind = Word name } ∷ z)
+        o.same)
         w.others))
 
 -- CONVERT
@@ -489,7 +524,8 @@ call_deep kind below name tokens v u left none w o e =
 pub convert_operand : {below : ℕ} {tokens v w : List Token} {x : Found}
     → IsInCall (codes "convert") below 2 (rule.convert_call ∷ []) [] tokens v
     → IsOperandAt false rule.or below v w x
-    → IsInCall (codes "convert") below 3 (rule.convert_call ∷ []) (operand (as_operand x) ∷ []) tokens w
+    → IsInCall (codes "convert") below 3 (rule.convert_call ∷ [])
+    (operand (as_operand x) ∷ []) tokens w
 unfolding behind behind_at keyword_of is_intro is_called
 convert_operand p o = in_rule p o.done refl refl
 
@@ -514,7 +550,8 @@ pub using_name_missed : {below : ℕ} {tokens v w : List Token} {x : Operand} {f
 unfolding behind behind_at keyword_of is_intro is_called
 using_name_missed n o p = in_fault (in_token p n refl refl) o refl refl
 
-pub using_read : {below : ℕ} {tokens v w u r : List Token} {x : Operand} {c : Collation} {span : Span}
+pub using_read : {below : ℕ} {tokens v w u r : List Token} {x : Operand} {c : Collation}
+    {span : Span}
     → IsNext (Word (codes "using")) v w
     → IsRead (behind rule.name_or_binary) 1 rule.name_or_binary below w u (collation c) c.extent
     → IsClosed tokens u r span
@@ -525,7 +562,8 @@ using_read n o c p =
     in_closed (in_rule (in_token p n refl refl) o.done refl refl) c (λ s. refl) refl
     (λ e s t u. refl)
 
-pub using_unclosed : {below : ℕ} {tokens v w u : List Token} {x : Operand} {c : Collation} {fault : Fault}
+pub using_unclosed : {below : ℕ} {tokens v w u : List Token} {x : Operand} {c : Collation}
+    {fault : Fault}
     → IsNext (Word (codes "using")) v w
     → IsRead (behind rule.name_or_binary) 1 rule.name_or_binary below w u (collation c) c.extent
     → IsUnclosed u fault
@@ -538,17 +576,20 @@ using_unclosed n o u p = in_unclosed (in_rule (in_token p n refl refl) o.done re
 
 pub star_read : {below : ℕ} {tokens v w u : List Token} {span : Span}
     → IsInCall (codes "count") below 2
-    (rule.count_all_call ∷ rule.count_distinct_call ∷ rule.empty_call ∷ rule.single_call ∷ rule.many_call ∷ []) [] tokens v
+    (rule.count_all_call ∷ rule.count_distinct_call ∷ rule.empty_call ∷ rule.single_call ∷
+    rule.many_call ∷ []) [] tokens v
     → IsNext (Sym Star) v w → IsClosed tokens w u span
     → IsCallRead below tokens u span form.CountAll
 unfolding behind behind_at keyword_of is_intro is_called
 star_read p n c =
-    in_closed (in_token (in_next {bs = rule.count_all_call ∷ []} p n refl) n refl refl) c (λ s. refl)
+    in_closed (in_token (in_next {bs = rule.count_all_call ∷ []} p n refl) n refl refl) c
+    (λ s. refl)
     refl (λ e s t u. refl)
 
 pub star_unclosed : {below : ℕ} {tokens v w : List Token} {fault : Fault}
     → IsInCall (codes "count") below 2
-    (rule.count_all_call ∷ rule.count_distinct_call ∷ rule.empty_call ∷ rule.single_call ∷ rule.many_call ∷ []) [] tokens v
+    (rule.count_all_call ∷ rule.count_distinct_call ∷ rule.empty_call ∷ rule.single_call ∷
+    rule.many_call ∷ []) [] tokens v
     → IsNext (Sym Star) v w → IsUnclosed w fault → IsCallFault below tokens fault
 unfolding behind behind_at keyword_of is_intro is_called
 star_unclosed p n u =
@@ -556,7 +597,8 @@ star_unclosed p n u =
 
 pub distinct_next : {below : ℕ} {tokens v w : List Token}
     → IsInCall (codes "count") below 2
-    (rule.count_all_call ∷ rule.count_distinct_call ∷ rule.empty_call ∷ rule.single_call ∷ rule.many_call ∷ []) [] tokens v
+    (rule.count_all_call ∷ rule.count_distinct_call ∷ rule.empty_call ∷ rule.single_call ∷
+    rule.many_call ∷ []) [] tokens v
     → IsNext (Word (codes "distinct")) v w
     → IsInCall (codes "count") below 2 (rule.count_distinct_call ∷ []) [] tokens v
 unfolding behind behind_at keyword_of is_intro is_called
@@ -564,9 +606,11 @@ distinct_next p n = in_next p n refl
 
 pub count_plain : {below : ℕ} {tokens v : List Token}
     → IsInCall (codes "count") below 2
-    (rule.count_all_call ∷ rule.count_distinct_call ∷ rule.empty_call ∷ rule.single_call ∷ rule.many_call ∷ []) [] tokens v
+    (rule.count_all_call ∷ rule.count_distinct_call ∷ rule.empty_call ∷ rule.single_call ∷
+    rule.many_call ∷ []) [] tokens v
     → IsTrue (is_missing (mark Star) v) → IsTrue (is_missing (word (codes "distinct")) v)
-    → IsInCall (codes "count") below 2 (rule.empty_call ∷ rule.single_call ∷ rule.many_call ∷ []) [] tokens v
+    → IsInCall (codes "count") below 2 (rule.empty_call ∷ rule.single_call ∷ rule.many_call ∷ [])
+    [] tokens v
 unfolding behind behind_at keyword_of is_intro is_called
 count_plain p h k =
     in_missing (mark Star ∷ word (codes "distinct") ∷ []) p
@@ -578,7 +622,8 @@ pub distinct_read : {below : ℕ} {tokens v w r u : List Token} {x : Found} {spa
     → IsClosed tokens r u span → IsCallRead below tokens u span (form.CountDistinct x.expr)
 unfolding behind behind_at keyword_of is_intro is_called
 distinct_read p n o c =
-    in_closed (in_rule (in_token p n refl refl) o.done refl refl) c (λ s. refl) refl (λ e s t u. refl)
+    in_closed (in_rule (in_token p n refl refl) o.done refl refl) c (λ s. refl) refl
+    (λ e s t u. refl)
 
 pub distinct_missed : {below : ℕ} {tokens v w : List Token} {fault : Fault}
     → IsInCall (codes "count") below 2 (rule.count_distinct_call ∷ []) [] tokens v
@@ -602,7 +647,8 @@ pub empty_read : {below : ℕ} {name : List ℕ} {tokens v w : List Token} {span
     → IsClosed tokens v w span → IsCallRead below tokens w span (form.Call name [])
 unfolding behind behind_at
 empty_read p c =
-    in_closed (in_next {bs = rule.empty_call ∷ []} p c.next refl) c (λ s. refl) refl (λ e s t u. refl)
+    in_closed (in_next {bs = rule.empty_call ∷ []} p c.next refl) c (λ s. refl) refl
+    (λ e s t u. refl)
 
 pub first_missed : {below : ℕ} {name : List ℕ} {tokens v : List Token} {fault other : Fault}
     → IsInCall name below 2 (rule.empty_call ∷ rule.single_call ∷ rule.many_call ∷ []) [] tokens v
@@ -616,7 +662,8 @@ first_missed p u o =
 pub first_read : {below : ℕ} {name : List ℕ} {tokens v w : List Token} {x : Found} {other : Fault}
     → IsInCall name below 2 (rule.empty_call ∷ rule.single_call ∷ rule.many_call ∷ []) [] tokens v
     → IsUnclosed v other → IsOperandAt false rule.or below v w x
-    → IsInCall name below 3 (rule.single_call ∷ rule.many_call ∷ []) (operand (as_operand x) ∷ []) tokens w
+    → IsInCall name below 3 (rule.single_call ∷ rule.many_call ∷ [])
+    (operand (as_operand x) ∷ []) tokens w
 unfolding behind behind_at
 first_read p u o =
     in_rule (in_missing {bs = rule.single_call ∷ rule.many_call ∷ []} (mark RightParen ∷ []) p
@@ -627,7 +674,8 @@ pub single_read : {below : ℕ} {name : List ℕ} {tokens v w : List Token} {x :
     → IsClosed tokens v w span → IsCallRead below tokens w span (form.Call name (x.expr ∷ []))
 unfolding behind behind_at
 single_read p c =
-    in_closed (in_next {bs = rule.single_call ∷ []} p c.next refl) c (λ s. refl) refl (λ e s t u. refl)
+    in_closed (in_next {bs = rule.single_call ∷ []} p c.next refl) c (λ s. refl) refl
+    (λ e s t u. refl)
 
 pub not_single : {below : ℕ} {name : List ℕ} {tokens v : List Token} {x : Operand} {other : Fault}
     → IsInCall name below 3 (rule.single_call ∷ rule.many_call ∷ []) (operand x ∷ []) tokens v
@@ -646,7 +694,8 @@ pub other_word : {tokens rest : List Token} {w : List ℕ} → IsTextOf called t
     → IsTrue (is_missing (word (codes "substring")) tokens)
     → IsTrue (is_missing (word (codes "weight_string")) tokens)
     → IsOther w tokens rest
-other_word {tokens = tokens} {rest = rest} {w = w} n a b c d e f = by_kind n.token.kind refl n.of_class
+other_word {tokens = tokens} {rest = rest} {w = w} n a b c d e f = by_kind n.token.kind refl
+    n.of_class
   where
     by_kind : (x : Lexeme) → n.token.kind ≡ x → IsTrue (is_lexeme_of called x)
         → IsOther w tokens rest

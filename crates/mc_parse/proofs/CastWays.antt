@@ -1,5 +1,6 @@
 -- The ways through the functions that read CAST.
-use Rattle.std.proofs.Common.{◌≡◌, refl, sym, ap, ◌∙◌, subst, ℕ, false, List, [], ◌∷◌, IsTrue, Option}
+use Rattle.std.proofs.Common.{◌≡◌, refl, sym, ap, ◌∙◌, subst, ℕ, false, List, [], ◌∷◌, IsTrue}
+use Rattle.std.proofs.Common.{Option}
 use Rattle.std.proofs.Common.{Some, None, length, arith, codes}
 use Rattle.mc_base.specs.declared.span.Span.{Span}
 use Rattle.mc_token.specs.Keywords.{keyword_of}
@@ -49,7 +50,8 @@ pub set_read : {below : ℕ} {tokens u v w : List Token} {c : Collation} {e : Sp
     → HasSet below tokens w (Some c.name)
 set_read {below = below} {tokens = tokens} {u = u} {v = v} {w = w} {c = c} {e = e} n m o =
     subst (λ (z : List Token). HasSet below z w (Some c.name))
-    (sym (n.same ∙ ap (λ (z : List Token). record { span = n.span; kind = Word (codes "character") } ∷ z) m.same))
+    (sym (n.same ∙ ap (λ (z : List Token). record { span = n.span; kind = Word (codes "character") }
+    ∷ z) m.same))
     (set_here below n.span m.span v w c e o)
 
 set_word_here : (below : ℕ) (s : Span) (v : List Token) → IsTrue (is_missing (word (codes "set")) v)
@@ -85,7 +87,8 @@ pub set_name_missed : {below : ℕ} {tokens u v : List Token} {fault : Fault}
     → IsFault (behind rule.set_option) rule.set_option below tokens fault
 set_name_missed {below = below} {v = v} {fault = fault} n m o =
     subst (λ (z : List Token). IsFault (behind rule.set_option) rule.set_option below z fault)
-    (sym (n.same ∙ ap (λ (z : List Token). record { span = n.span; kind = Word (codes "character") } ∷ z) m.same))
+    (sym (n.same ∙ ap (λ (z : List Token). record { span = n.span; kind = Word (codes "character") }
+    ∷ z) m.same))
     (set_name_here below n.span m.span v fault o)
 
 -- CAST

@@ -31,7 +31,10 @@ pub clause_read : {r : Rule} {n : ℕ} {a : Roomed Alternative} {vs : List Value
     → Inside language (behind r) n (at nest_limit r) (record { alternative = a; left = [] } ∷ [])
     vs tokens front rest
     → n ≤ 1 → IsClause r tokens rest (meaning a.what (span_of front) vs)
-clause_read p lt = record { done = leave language sound _ _ _ _ _ _ _ _ (widen language sound p lt) }
+clause_read p lt = record {
+  done = leave language sound _ _ _ _ _ _ _ _
+      (widen language sound p lt);
+}
 
 -- The same, with a value that does not depend on where its tokens stand.
 pub clause_valued : {r : Rule} {n : ℕ} {a : Roomed Alternative} {vs : List Value}

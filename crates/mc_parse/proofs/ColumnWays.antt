@@ -1,5 +1,7 @@
 -- The ways through the functions that read a column, parentheses, or nothing.
-use Rattle.std.proofs.Common.{◌≡◌, ◌⊎◌, refl, sym, ap, ◌∙◌, subst, inl, inr, ℕ, zero, suc, ◌+◌, ◌-◌, ◌<◌, ◌≤◌, Bool, true, false, not, ◌&&◌, ◌||◌, List, [], ◌∷◌, ◌++◌, IsTrue, length, Option, Some, None, arith, codes}
+use Rattle.std.proofs.Common.{◌≡◌, ◌⊎◌, refl, sym, ap, ◌∙◌, subst, inl, inr, ℕ, zero, suc, ◌+◌, ◌-◌}
+use Rattle.std.proofs.Common.{◌<◌, ◌≤◌, Bool, true, false, not, ◌&&◌, ◌||◌, List, [], ◌∷◌, ◌++◌}
+use Rattle.std.proofs.Common.{IsTrue, length, Option, Some, None, arith, codes}
 use Rattle.std.specs.List.{list_any}
 use Rattle.std.specs.Prelude.{is_none, option_map}
 use Rattle.std.specs.Str.{bytes_eq}
@@ -19,9 +21,10 @@ use Rattle.mc_grammar.specs.Room.{Roomed, Admitted, admitted}
 use Rattle.mc_grammar.proofs.Seeing.{sees_next, sees_two}
 use Rattle.mc_grammar.proofs.Inside.{enter}
 use Rattle.mc_grammar.proofs.Ways.{choose, look, take_token, read_rule, widen}
-use Rattle.mc_sql.specs.Classes.{Class, word, mark, name, called, called_otherwise, intro, int, str, national, hex, is_reserved, is_intro, is_called, is_lexeme_of}
+use Rattle.mc_sql.specs.Classes.{Class, word, mark, name, called, called_otherwise, intro, int, str}
+use Rattle.mc_sql.specs.Classes.{national, hex, is_reserved, is_intro, is_called, is_lexeme_of}
 use Rattle.mc_sql.specs.Rules as rule
-use Rattle.mc_sql.proofs.Tables.{behind_call}
+use Rattle.mc_sql.specs.Behind.{behind_call}
 use Rattle.mc_ast.specs.declared.expr.Form.{Form}
 use Rattle.mc_ast.specs.declared.expr.Form.TheVariants.{Name, Qualified}
 use Rattle.mc_ast.specs.Grouping.{whole}
@@ -32,11 +35,13 @@ use Rattle.mc_parse.specs.declared.fault.Fault.TheVariants.{NoReading, TooDeep}
 use Rattle.mc_parse.specs.declared.operand.Operand.{Operand as Found}
 use Rattle.mc_parse.specs.Language.{language, at, behind, behind_at}
 use Rattle.mc_parse.specs.Place.{is_missing, are_missing, span_at, IsNext, IsTextOf}
-use Rattle.mc_parse.specs.Primary.{is_caller, begins_call, begins_text, begins_string, plain_literals, IsMissingAt}
+use Rattle.mc_parse.specs.Primary.{is_caller, begins_call, begins_text, begins_string}
+use Rattle.mc_parse.specs.Primary.{plain_literals, IsMissingAt}
 use Rattle.mc_parse.specs.Read.{IsRead, IsFault, as_operand, IsOperand, IsOperandAt}
 use Rattle.mc_parse.proofs.CallKinds.{keyword_intro}
 use Rattle.mc_parse.proofs.Spans.{span_from-append}
-use Rattle.mc_parse.proofs.Ways.{sound, both_missing, sees_missing, is_read, is_fault, is_missed, is_barred_here}
+use Rattle.mc_parse.proofs.Ways.{sound, both_missing, sees_missing, is_read, is_fault, is_missed}
+use Rattle.mc_parse.proofs.Ways.{is_barred_here}
 use Rattle.mc_parse.proofs.NameWays.{only_next}
 use Rattle.mc_parse.proofs.SaidWays.{start_kept}
 use Rattle.mc_parse.proofs.PrimWays.{stands}
@@ -63,7 +68,8 @@ may_be_alone (Some k) = alone_class k.class
 
 -- No parenthesis stands behind the word of a call.
 no_paren : (v : List Token) → IsTrue (is_missing (mark sign.LeftParen) v)
-    → IsTrue (is_met language (Some (record { class = mark sign.LeftParen; has_room = true })) v || false)
+    → IsTrue (is_met language (Some (record { class = mark sign.LeftParen; has_room = true })) v
+    || false)
     → ⊥
 no_paren [] h m = cc
 no_paren (t ∷ v) h m = by_test (is_lexeme_of (mark sign.LeftParen) t.kind) h m
@@ -140,7 +146,8 @@ word_paren : (w : List ℕ) (s : Span) (v : List Token) → IsTrue (not (is_rese
     → begins_call (record { span = s; kind = lexeme.Word w } ∷ v) ≡ false
     → IsTrue (is_missing (mark sign.LeftParen) v)
 word_paren w s v h e =
-    other_missing (is_caller (lexeme.Word w)) (is_missing (mark sign.LeftParen) v) (name_calls w h) e
+    other_missing (is_caller (lexeme.Word w)) (is_missing (mark sign.LeftParen) v)
+    (name_calls w h) e
 
 column_class : (k : Class) (x : Lexeme) (s : Span) (v : List Token) → IsTrue (is_lexeme_of name x)
     → begins_call (record { span = s; kind = x } ∷ v) ≡ false
@@ -262,7 +269,8 @@ pub column_read : (below : ℕ) (tokens rest : List Token) (said text : List ℕ
     → IsTrue (is_missing (mark sign.Dot) rest) → text ≡ said → s ≡ span_at tokens
     → as_operand y ≡ whole s (Name text) → IsOperand rule.prim below tokens rest y
 column_read below tokens rest said text s y n e f g made at_token h =
-    subst (λ (z : Operand). IsRead (behind rule.prim) 1 rule.prim below tokens rest (operand z) z.extent)
+    subst (λ (z : Operand). IsRead (behind rule.prim) 1 rule.prim below tokens rest
+    (operand z) z.extent)
     (sym (h ∙ ap (λ (t : List ℕ). whole s (Name t)) (made ∙ n.says)
     ∙ ap (λ (t : Span). whole t (Name (lexeme_text n.token.kind))) (at_token ∙ ap span_at n.same)))
     (subst (λ (z : List Token). IsRead (behind rule.prim) 1 rule.prim below z rest
@@ -277,7 +285,8 @@ two_same : {tokens u v rest : List Token} {said second : List ℕ}
     → tokens ≡ n.token ∷ (record { span = d.span; kind = lexeme.Sym sign.Dot } ∷ (k.token ∷ rest))
 two_same n d k =
     n.same ∙ ap (λ (z : List Token). n.token ∷ z)
-    (d.same ∙ ap (λ (z : List Token). record { span = d.span; kind = lexeme.Sym sign.Dot } ∷ z) k.same)
+    (d.same ∙ ap (λ (z : List Token). record { span = d.span; kind = lexeme.Sym sign.Dot } ∷ z)
+    k.same)
 
 pub qualified_read : (below : ℕ) (tokens u v rest : List Token) (said second table text : List ℕ)
     (s : Span) (y : Found)
@@ -288,7 +297,8 @@ pub qualified_read : (below : ℕ) (tokens u v rest : List Token) (said second t
 qualified_read below tokens u v rest said second table text s y n d k e f made made' at_token h =
     let same : tokens ≡ n.token ∷ (record { span = d.span; kind = lexeme.Sym sign.Dot }
     ∷ (k.token ∷ rest)) = two_same n d k in
-    subst (λ (z : Operand). IsRead (behind rule.prim) 1 rule.prim below tokens rest (operand z) z.extent)
+    subst (λ (z : Operand). IsRead (behind rule.prim) 1 rule.prim below tokens rest
+    (operand z) z.extent)
     (sym (h ∙ ap (λ (t : List ℕ). whole s (Qualified t text)) (made ∙ n.says)
     ∙ ap (λ (t : List ℕ). whole s (Qualified (lexeme_text n.token.kind) t)) (made' ∙ k.says)
     ∙ ap (λ (t : Span). whole t (Qualified (lexeme_text n.token.kind) (lexeme_text k.token.kind)))
@@ -320,7 +330,8 @@ dot_missed below tokens u v said left n d e f g l =
 
 paren_here : (m : ℕ) (s e : Span) (v u : List Token) (x : Found)
     → IsOperandAt false rule.or m v (record { span = e; kind = lexeme.Sym sign.RightParen } ∷ u) x
-    → IsRead (behind rule.prim) 1 rule.prim (suc m) (record { span = s; kind = lexeme.Sym sign.LeftParen } ∷ v) u
+    → IsRead (behind rule.prim) 1 rule.prim (suc m)
+    (record { span = s; kind = lexeme.Sym sign.LeftParen } ∷ v) u
     (operand (record { expr = x.expr; extent = from_to s e })) (from_to s e)
 unfolding behind behind_at keyword_of is_intro is_called
 paren_here m s e v u x o =
@@ -330,7 +341,8 @@ paren_here m s e v u x o =
     (span_from-append s o.done.front (record { span = e; kind = lexeme.Sym sign.RightParen } ∷ [])
     ∙ start_kept s e o.done.front)
     (is_read (widen language sound (take_token language sound (read_rule language sound
-    (take_token language sound (choose language sound (sees_next language sound _)) refl) o.done refl
+    (take_token language sound (choose language sound (sees_next language sound _)) refl) o.done
+    refl
     refl (omega arith)) refl) (omega arith)) refl)
 
 pub paren_read : (m : ℕ) (tokens v w u : List Token) (s : Span) (x y : Found)
@@ -339,7 +351,8 @@ pub paren_read : (m : ℕ) (tokens v w u : List Token) (s : Span) (x y : Found)
     → as_operand y ≡ record { expr = x.expr; extent = s }
     → IsOperand rule.prim (suc m) tokens u y
 paren_read m tokens v w u s x y n o k at_both h =
-    subst (λ (z : Operand). IsRead (behind rule.prim) 1 rule.prim (suc m) tokens u (operand z) z.extent)
+    subst (λ (z : Operand). IsRead (behind rule.prim) 1 rule.prim (suc m) tokens u
+    (operand z) z.extent)
     (sym (h ∙ ap (λ (z : Span). record { expr = x.expr; extent = z })
     (at_both ∙ ap (λ (z : List Token). from_to (span_at z) (span_at w)) n.same
     ∙ ap (λ (z : List Token). from_to n.span (span_at z)) k.same)))
@@ -382,11 +395,13 @@ pub close_missed : (m : ℕ) (tokens v w : List Token) (x : Found) (left : ℕ)
     → IsFault (behind rule.prim) rule.prim (suc m) tokens (NoReading left)
 close_missed m tokens v w x left n o h e =
     subst (λ (k : ℕ). IsFault (behind rule.prim) rule.prim (suc m) tokens (NoReading k)) (sym e)
-    (subst (λ (z : List Token). IsFault (behind rule.prim) rule.prim (suc m) z (NoReading (length w)))
+    (subst (λ (z : List Token). IsFault (behind rule.prim) rule.prim (suc m) z
+    (NoReading (length w)))
     (sym n.same) (close_missed_here m n.span v w x o h))
 
 paren_deep_here : (s : Span) (v : List Token)
-    → IsFault (behind rule.prim) rule.prim 0 (record { span = s; kind = lexeme.Sym sign.LeftParen } ∷ v)
+    → IsFault (behind rule.prim) rule.prim 0
+    (record { span = s; kind = lexeme.Sym sign.LeftParen } ∷ v)
     (TooDeep (length (record { span = s; kind = lexeme.Sym sign.LeftParen } ∷ v)))
 unfolding behind behind_at keyword_of is_intro is_called
 paren_deep_here s v =
@@ -397,7 +412,8 @@ pub paren_deep : (below : ℕ) (tokens v : List Token) (left : ℕ) → below �
     → IsFault (behind rule.prim) rule.prim below tokens (TooDeep left)
 paren_deep below tokens v left e n l =
     subst (λ (m : ℕ). IsFault (behind rule.prim) rule.prim below tokens (TooDeep m)) (sym l)
-    (subst (λ (m : ℕ). IsFault (behind rule.prim) rule.prim m tokens (TooDeep (length tokens))) (sym e)
+    (subst (λ (m : ℕ). IsFault (behind rule.prim) rule.prim m tokens (TooDeep (length tokens)))
+    (sym e)
     (subst (λ (z : List Token). IsFault (behind rule.prim) rule.prim 0 z (TooDeep (length z)))
     (sym n.same) (paren_deep_here n.span v)))
 
@@ -419,7 +435,8 @@ word_missed below s v h =
     (sees_missing (mark sign.LeftParen ∷ []) v (both_missing _ _ h refl)) refl (omega arith))
     refl refl (omega arith)
 
-convert_missed : (below : ℕ) (s : Span) (v : List Token) → IsTrue (is_missing (mark sign.LeftParen) v)
+convert_missed : (below : ℕ) (s : Span) (v : List Token) → IsTrue
+    (is_missing (mark sign.LeftParen) v)
     → IsFault (behind rule.prim) rule.prim below
     (record { span = s; kind = lexeme.Word (codes "convert") } ∷ v) (NoReading (length v))
 unfolding behind behind_at keyword_of is_intro is_called
@@ -446,7 +463,8 @@ no_name : (k : Class) (tokens : List Token) → IsTrue (is_missing name tokens)
     → ((x : Lexeme) → IsTrue (is_lexeme_of k x) → IsTrue (is_lexeme_of name x))
     → IsTrue (is_missing k tokens)
 no_name k [] h g = refl
-no_name k (t ∷ v) h g = by_tests (is_lexeme_of k t.kind) (is_lexeme_of name t.kind) h (λ m. g t.kind m)
+no_name k (t ∷ v) h g = by_tests (is_lexeme_of k t.kind) (is_lexeme_of name t.kind) h
+    (λ m. g t.kind m)
   where
     by_tests : (a b : Bool) → IsTrue (not b) → (IsTrue a → IsTrue b) → IsTrue (not a)
     by_tests true true e f = cc
@@ -525,7 +543,8 @@ strings_missing (t ∷ v) e =
     both_missing _ _ (not_so (is_lexeme_of str t.kind) (left_false (is_lexeme_of str t.kind) _ f))
     (both_missing _ _
     (not_so (is_lexeme_of national t.kind) (left_false (is_lexeme_of national t.kind) _ g))
-    (both_missing _ _ (not_so (is_lexeme_of hex t.kind) (right_false (is_lexeme_of national t.kind) _ g))
+    (both_missing _ _ (not_so (is_lexeme_of hex t.kind)
+    (right_false (is_lexeme_of national t.kind) _ g))
     refl))
 
 -- All that an operand begins with.
@@ -548,20 +567,25 @@ all_missing : (tokens : List Token) → IsTrue (is_missing name tokens)
 unfolding keyword_of
 all_missing tokens h p e m c l =
     let i : IsTrue (is_missing int tokens) × IsTrue (are_missing (word (codes "true")
-    ∷ word (codes "false") ∷ word (codes "null") ∷ []) tokens) = parts_of (is_missing int tokens) _ l in
+    ∷ word (codes "false") ∷ word (codes "null") ∷ []) tokens) = parts_of
+    (is_missing int tokens) _ l in
     let a : IsTrue (is_missing (word (codes "true")) tokens) × IsTrue (are_missing
     (word (codes "false") ∷ word (codes "null") ∷ []) tokens) =
     parts_of (is_missing (word (codes "true")) tokens) _ i.1 in
     let f : IsTrue (is_missing (word (codes "false")) tokens) × IsTrue (are_missing
-    (word (codes "null") ∷ []) tokens) = parts_of (is_missing (word (codes "false")) tokens) _ a.1 in
+    (word (codes "null") ∷ []) tokens) = parts_of (is_missing (word (codes "false")) tokens) _ a.1
+    in
     let n : IsTrue (is_missing (word (codes "null")) tokens) × IsTrue true =
     parts_of (is_missing (word (codes "null")) tokens) true f.1 in
     let d : IsTrue (is_missing called tokens) = called_missing tokens h m in
     both_missing _ _ h (both_missing _ _ p
     (both_missing _ _ (no_name intro tokens h (λ x q. intro_is_name x q))
-    (both_missing _ _ (no_name (word (codes "cast")) tokens h (λ x q. word_is_name (codes "cast") refl x q))
-    (both_missing _ _ (no_name (word (codes "count")) tokens h (λ x q. word_is_name (codes "count") refl x q))
-    (both_missing _ _ (no_name (word (codes "trim")) tokens h (λ x q. word_is_name (codes "trim") refl x q))
+    (both_missing _ _ (no_name (word (codes "cast")) tokens h
+    (λ x q. word_is_name (codes "cast") refl x q))
+    (both_missing _ _ (no_name (word (codes "count")) tokens h
+    (λ x q. word_is_name (codes "count") refl x q))
+    (both_missing _ _ (no_name (word (codes "trim")) tokens h
+    (λ x q. word_is_name (codes "trim") refl x q))
     (both_missing _ _ (no_name (word (codes "substring")) tokens h
     (λ x q. word_is_name (codes "substring") refl x q))
     (both_missing _ _ (no_name (word (codes "weight_string")) tokens h

@@ -73,7 +73,8 @@ module _ {X Y : Type 0} (l : CommaList X Y) where
         rest
     pub same : now ≡ before ++ map l.shown links
 
-  pub listing_start : (tokens : List Token) (before : List Y) → IsCommaList tokens tokens before before
+  pub listing_start : (tokens : List Token) (before : List Y)
+      → IsCommaList tokens tokens before before
   listing_start tokens before = record {
     links = [];
     front = [];

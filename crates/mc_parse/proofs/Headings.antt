@@ -32,6 +32,7 @@ use Rattle.mc_ast.specs.Values.{Value, Operand, operand, operands, item as an_it
 use Rattle.mc_ast.specs.Values.{order_item, order_items}
 use Rattle.mc_parse.specs.declared.fault.Fault.{Fault}
 use Rattle.mc_parse.specs.declared.fault.Fault.TheVariants.{NoReading}
+use Rattle.mc_parse.specs.Calls.{IsPushed, HasOrs}
 use Rattle.mc_parse.specs.Clauses.{IsClause, IsClauseFault, HasMore, HasOne}
 use Rattle.mc_parse.specs.Language.{language, at, behind, behind_at}
 use Rattle.mc_parse.specs.Place.{is_missing, IsNext}
@@ -80,7 +81,8 @@ module _ {X Y : Type 0} (h : Heading X Y) where
       (the_token s (Word h.first_word) ∷ v) (the_token s (Word h.first_word) ∷ []) v
   at_word s v =
       take_token language sound
-      (subst (λ (ps : List ThePlace). Inside language (behind h.option) 1 (at nest_limit h.option) ps
+      (subst (λ (ps : List ThePlace). Inside language (behind h.option) 1
+      (at nest_limit h.option) ps
       [] (the_token s (Word h.first_word) ∷ v) [] (the_token s (Word h.first_word) ∷ v))
       (h.chosen s v)
       (choose language sound (sees_next language sound (the_token s (Word h.first_word) ∷ v))))
@@ -227,7 +229,8 @@ pub orders_fault : (tokens by rest : List Token) (fault : Fault)
 unfolding ordering more_order
 orders_fault tokens by rest fault n m o = heading_fault ordering tokens by rest fault n m o
 
-pub more_orders_fault : (tokens by rest v : List Token) (before now : List OrderItem) (fault : Fault)
+pub more_orders_fault : (tokens by rest v : List Token) (before now : List OrderItem)
+    (fault : Fault)
     → IsNext (Word (codes "order")) tokens by → IsNext (Word (codes "by")) by rest
     → HasOne (behind order) order (λ x. order_item x) (λ x. x) rest v before now
     → IsClauseFault more_orders v fault → IsClauseFault order_option tokens fault
@@ -258,23 +261,44 @@ groups_missed tokens by left n e place = heading_missed grouping tokens by left 
 
 pub groups_fault : (tokens by rest : List Token) (fault : Fault)
     → IsNext (Word (codes "group")) tokens by → IsNext (Word (codes "by")) by rest
-    → IsFault (behind_at false or) or nest_limit rest fault → IsClauseFault group_option tokens fault
+    → IsFault (behind_at false or) or nest_limit rest fault
+    → IsClauseFault group_option tokens fault
 unfolding grouping more_or
 groups_fault tokens by rest fault n m o = heading_fault grouping tokens by rest fault n m o
 
+-- An expression that is put to a list is one member of GROUP BY.
+one_pushed : (tokens rest : List Token) (before now : List Expr)
+    → IsPushed nest_limit tokens rest before now
+    → HasOne (behind_at false or) or (λ x. operand x) (λ x. x.expr) tokens rest before now
+one_pushed tokens rest before now o =
+    record { member = o.member; done = o.read.done; same = o.listed }
+
 pub more_groups_fault : (tokens by rest v : List Token) (before now : List Expr) (fault : Fault)
     → IsNext (Word (codes "group")) tokens by → IsNext (Word (codes "by")) by rest
-    → HasOne (behind_at false or) or (λ x. operand x) (λ x. x.expr) rest v before now
-    → IsClauseFault more_ors v fault → IsClauseFault group_option tokens fault
+    → IsPushed nest_limit rest v before now
+    → IsFault (behind more_ors) more_ors nest_limit v fault
+    → IsClauseFault group_option tokens fault
 unfolding grouping more_or
 more_groups_fault tokens by rest v before now fault n m o e =
-    heading_more_fault grouping tokens by rest v before now fault n m o e
+    heading_more_fault grouping tokens by rest v before now fault n m
+    (one_pushed rest v before now o) e
 
 pub groups_read : (tokens by rest v w : List Token) (before now next : List Expr)
     → IsNext (Word (codes "group")) tokens by → IsNext (Word (codes "by")) by rest
-    → HasOne (behind_at false or) or (λ x. operand x) (λ x. x.expr) rest v before now
-    → HasMore more_ors (λ xs. operands xs) (λ x. x.expr) v w now next
+    → IsPushed nest_limit rest v before now → HasOrs nest_limit v w now next
     → HasMore group_option (λ xs. operands xs) (λ x. x.expr) tokens w before next
 unfolding grouping more_or
 groups_read tokens by rest v w before now next n m o e =
-    heading_read grouping tokens by rest v w before now next n m o e
+    heading_read grouping tokens by rest v w before now next n m (one_pushed rest v before now o)
+    (record {
+      members = e.members;
+      clause = record { done = e.done };
+      same = e.listed;
+    })
+
+-- The ways through each function, by its name.
+pub ruleset group_option_ways =
+    (groups_left, groups_missed, groups_fault, more_groups_fault, groups_read)
+
+pub ruleset order_option_ways =
+    (orders_left, orders_missed, orders_fault, more_orders_fault, orders_read)

@@ -180,13 +180,6 @@ item_put tokens v w x i before now o a e = record {
   same = e;
 }
 
--- An expression of GROUP BY
-pub or_read : (tokens v : List Token) (x : Found) (before now : List Expr)
-    → IsOperandAt false or nest_limit tokens v x → now ≡ before ++ (x.expr ∷ [])
-    → HasOne (behind_at false or) or (λ y. operand y) (λ y. y.expr) tokens v before now
-or_read tokens v x before now o e =
-    record { member = as_operand x; done = o.done; same = e }
-
 -- A place of ORDER BY
 pub order_read : (tokens v w : List Token) (x : Found) (desc : Bool) (before now : List OrderItem)
     → IsOperandAt false or nest_limit tokens v x → IsClause direction_option v w (flag desc)
@@ -204,3 +197,8 @@ pub order_fault : (tokens : List Token) (fault : Fault)
     → IsFault (behind_at false or) or nest_limit tokens fault → IsClauseFault order tokens fault
 unfolding behind behind_at keyword_of is_intro is_called
 order_fault tokens fault o = is_fault (enter language _ _ _) o refl refl (omega arith)
+
+-- The ways through each function, by its name.
+pub ruleset alias_option_ways = (as_read, bare_read, alias_left, alias_missed)
+
+pub ruleset push_item_ways = (item_put, item_fault, alias_fault)

@@ -1,5 +1,6 @@
 pub mod TokenKinds
 pub mod CallKinds
+pub mod Openings
 pub mod Spans
 pub mod Ways
 pub mod Folds

@@ -183,3 +183,8 @@ offset_fault tokens v u n fault p q o =
     subst (λ (ts : List Token). IsClauseFault limit_option ts fault)
     (sym (p.same ∙ ap (λ (ts : List Token). the_token p.span (Word (codes "limit")) ∷ ts) q.same))
     (offset_fault_here p.span q.span n u fault o)
+
+-- The ways through each function, by its name.
+pub ruleset offset_option_ways = (count_read, offset_read, offset_left, count_missed, offset_missed)
+
+pub ruleset limit_option_ways = (limit_read, limit_left, limit_missed, offset_fault)

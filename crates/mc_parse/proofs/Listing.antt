@@ -1,5 +1,7 @@
 -- Chains whose operands are appended to a list, one after another.
-use Rattle.std.proofs.Common.{◌≡◌, refl, sym, ap, ◌∙◌, subst, ℕ, ◌+◌, ◌≤◌, Bool, true, false, not, List, [], ◌∷◌, ◌++◌, length, map, append_assoc, append-nil, IsTrue, arith}
+use Rattle.std.proofs.Common.{◌≡◌, refl, sym, ap, ◌∙◌, subst, ℕ, ◌+◌, ◌≤◌, Bool, true, false, not}
+use Rattle.std.proofs.Common.{List, [], ◌∷◌, ◌++◌, length, map, append_assoc, append-nil, IsTrue}
+use Rattle.std.proofs.Common.{arith}
 use Rattle.std.proofs.lemmas.List.{map-append}
 use Rattle.mc_base.specs.declared.span.Span.{Span}
 use Rattle.mc_token.specs.declared.lexeme.Token.{Token}
@@ -18,7 +20,7 @@ use Rattle.mc_ast.specs.Meaning.{meaning}
 use Rattle.mc_ast.specs.Spans.{span_of, span_from}
 use Rattle.mc_ast.specs.Values.{Value, Operand, exprs, operands}
 use Rattle.mc_parse.specs.Language.{language, at}
-use Rattle.mc_parse.specs.Lists.{joined, IsListed, IsAppended}
+use Rattle.mc_parse.specs.Lists.{joined, IsListed}
 use Rattle.mc_parse.specs.Place.{is_missing}
 use Rattle.mc_parse.specs.Read.{IsFolded}
 use Rattle.mc_parse.proofs.Spans.{span_from-append}
@@ -70,7 +72,8 @@ lists_link {front' = front'} {old = old} {first = first} x p q h e stands lt = r
   chain = chain_step language sound _ _ _ _ _ _ _ _ _ _ _ x _ _ p.chain q h lt;
   listed = e ∙ ap (λ (ys : List Expr). ys ++ (x.expr ∷ [])) p.listed
       ∙ append_assoc old (exprs p.links) (x.expr ∷ [])
-      ∙ ap (λ (ys : List Expr). old ++ ys) (sym (map-append (λ (y : Operand). y.expr) p.links (x ∷ [])));
+      ∙ ap (λ (ys : List Expr). old ++ ys)
+      (sym (map-append (λ (y : Operand). y.expr) p.links (x ∷ [])));
   whole = stands ∙ ap (λ (s : Span). span_from s front') p.whole
       ∙ sym (span_from-append first p.front front');
   some = λ none. absurd (not_empty p.links x none);
@@ -108,13 +111,14 @@ pub joins : {after : Ahead (Admitted Class)} {look : ℕ} {more : Rule} {below :
     → IsTrue (not (is_missing k tokens)) → IsTrue (is_missing k rest)
     → y ≡ whole last (form new)
     → IsFolded after look more (λ xs. operands xs) (joined form y.extent) below tokens rest x y
-joins {tokens = tokens} {rest = rest} {old = old} {new = new} {last = last} form k x y p one begun ended e = record {
-  links = p.links;
-  done = p.done;
-  folded = by_links p.links (λ none. p.some none)
-      (p.listed ∙ ap (λ (es : List Expr). es ++ exprs p.links) one);
-  whole = ap (λ (z : Operand). z.extent) e ∙ p.whole;
-}
+joins {tokens = tokens} {rest = rest} {old = old} {new = new} {last = last} form k x y p one begun
+    ended e = record {
+      links = p.links;
+      done = p.done;
+      folded = by_links p.links (λ none. p.some none)
+          (p.listed ∙ ap (λ (es : List Expr). es ++ exprs p.links) one);
+      whole = ap (λ (z : Operand). z.extent) e ∙ p.whole;
+    }
   where
     by_links : (xs : List Operand) → (xs ≡ [] → rest ≡ tokens)
         → new ≡ (x.expr ∷ []) ++ exprs xs → y ≡ joined form y.extent x xs
@@ -123,54 +127,3 @@ joins {tokens = tokens} {rest = rest} {old = old} {new = new} {last = last} form
     by_links (z ∷ zs) some f =
         e ∙ ap (λ (s : Span). whole s (form new)) (sym (ap (λ (o : Operand). o.extent) e))
         ∙ ap (λ (es : List Expr). whole y.extent (form es)) f
-
--- The same, wherever they stand.
-pub record IsAppending (after : Ahead (Admitted Class)) (look : ℕ) (more : Rule) (below : ℕ)
-    (tokens rest : List Token) (old new : List Expr) : Type 0 where
-  pub links : List Operand
-  pub front : List Token
-  pub chain : Chain language after look (at below more) (λ xs. operands xs) links tokens front rest
-  pub listed : new ≡ old ++ exprs links
-
-pub appends_none : {after : Ahead (Admitted Class)} {look : ℕ} {more : Rule} {below : ℕ}
-    {tokens : List Token} {old : List Expr}
-    → IsAppending after look more below tokens tokens old old
-appends_none {old = old} = record {
-  links = [];
-  front = [];
-  chain = chain_widen language _ 0 _ _ _ _ _ _ _ (chain_start language _ _ _ _) (omega arith);
-  listed = sym (append-nil old);
-}
-
-pub appends_link : {after : Ahead (Admitted Class)} {n m : ℕ} {more : Rule} {below : ℕ}
-    {tokens rest front' v : List Token} {old now next : List Expr} {a : Roomed Alternative}
-    {vs : List Value} (x : Operand)
-    → IsAppending after n more below tokens rest old now
-    → Inside language after m (at below more)
-    (record { alternative = a; left = rule (at below more) ∷ [] } ∷ []) vs rest front' v
-    → ((later : List Token) (others : List Operand)
-    → meaning a.what (span_of (front' ++ later)) (vs ++ (operands others ∷ []))
-    ≡ operands (x ∷ others))
-    → next ≡ now ++ (x.expr ∷ []) → n ≤ length front' + m
-    → IsAppending after m more below tokens v old next
-appends_link {front' = front'} {old = old} x p q h e lt = record {
-  links = p.links ++ (x ∷ []);
-  front = p.front ++ front';
-  chain = chain_step language sound _ _ _ _ _ _ _ _ _ _ _ x _ _ p.chain q h lt;
-  listed = e ∙ ap (λ (ys : List Expr). ys ++ (x.expr ∷ [])) p.listed
-      ∙ append_assoc old (exprs p.links) (x.expr ∷ [])
-      ∙ ap (λ (ys : List Expr). old ++ ys) (sym (map-append (λ (y : Operand). y.expr) p.links (x ∷ [])));
-}
-
-pub appends_all : {after : Ahead (Admitted Class)} {n m : ℕ} {more : Rule} {below : ℕ}
-    {tokens rest : List Token} {old new : List Expr} {a : Roomed Alternative}
-    → IsAppending after n more below tokens rest old new
-    → Inside language after m (at below more) (record { alternative = a; left = [] } ∷ []) []
-    rest [] rest
-    → meaning a.what (span_of []) [] ≡ operands [] → n ≤ m
-    → IsAppended after m more below tokens rest old new
-appends_all p q e lt = record {
-  links = p.links;
-  done = chain_end language sound _ _ _ _ _ _ _ _ _ _ p.chain q e lt;
-  listed = p.listed;
-}

@@ -1,5 +1,7 @@
 -- The ways through LIKE, IN and BETWEEN.
-use Rattle.std.proofs.Common.{◌≡◌, refl, sym, ap, ◌∙◌, subst, inl, inr, ℕ, zero, suc, ◌+◌, ◌<◌, ◌≤◌, Bool, true, false, not, ◌&&◌, ◌||◌, List, [], ◌∷◌, ◌++◌, IsTrue, length, Option, Some, None, arith, codes}
+use Rattle.std.proofs.Common.{◌≡◌, refl, sym, ap, ◌∙◌, subst, inl, inr, ℕ, zero, suc, ◌+◌, ◌<◌, ◌≤◌}
+use Rattle.std.proofs.Common.{Bool, true, false, not, ◌&&◌, ◌||◌, List, [], ◌∷◌, ◌++◌, IsTrue}
+use Rattle.std.proofs.Common.{length, Option, Some, None, arith, codes}
 use Rattle.std.specs.List.{list_any}
 use Rattle.mc_base.specs.declared.span.Span.{Span}
 use Rattle.mc_token.specs.declared.lexeme.Lexeme.TheVariants as lexeme
@@ -30,15 +32,18 @@ use Rattle.mc_parse.specs.Place.{is_missing, span_at, IsNext}
 use Rattle.mc_parse.specs.Read.{IsRead, IsFault, as_operand, IsOperand, IsOperandAt, IsPut}
 use Rattle.mc_parse.specs.Said.{IsSaid, IsMatching, IsEscaping, IsListing, IsRanging}
 use Rattle.mc_parse.proofs.Spans.{span_of-append, over}
-use Rattle.mc_parse.proofs.Ways.{sound, both_missing, sees_missing, is_read, is_fault, is_missed, is_barred_here, read_takes}
+use Rattle.mc_parse.proofs.Ways.{sound, both_missing, sees_missing, is_read, is_fault, is_missed}
+use Rattle.mc_parse.proofs.Ways.{is_barred_here, read_takes}
 use Rattle.mc_parse.proofs.TruthWays.{look_least}
-use Rattle.mc_parse.proofs.SaidWays.{place_of, said_rule, said_token, said_option, said_done, said_fault, said_operand}
+use Rattle.mc_parse.proofs.SaidWays.{place_of, said_rule, said_token, said_option, said_done}
+use Rattle.mc_parse.proofs.SaidWays.{said_fault, said_operand}
 
 -- LIKE
 
 matched_pass : (alias : Bool) (below : ℕ)
     → IsTrue (all_pass language (behind_at alias rule.pred)
-    (place_of below rule.matched (with_room (suc below) [] (a_rule rule.escape_option ∷ [])) ∷ []) (behind rule.sum))
+    (place_of below rule.matched (with_room (suc below) [] (a_rule rule.escape_option ∷ [])) ∷ [])
+    (behind rule.sum))
 unfolding behind behind_at keyword_of is_intro is_called
 matched_pass true below = refl
 matched_pass false below = refl
@@ -59,7 +64,8 @@ matched_missed alias below n tokens v x fault p o = said_fault p.said o (matched
 
 escaped_pass : (alias : Bool) (below : ℕ)
     → IsTrue (all_pass language (behind_at alias rule.pred)
-    (place_of below rule.matched (with_room (suc below) [] []) ∷ []) (behind_at alias rule.escape_option))
+    (place_of below rule.matched (with_room (suc below) [] []) ∷ [])
+    (behind_at alias rule.escape_option))
 unfolding behind behind_at keyword_of is_intro is_called
 escaped_pass true below = refl
 escaped_pass false below = refl
@@ -72,7 +78,8 @@ pub escaped_read : (alias : Bool) (below : ℕ) (n : Bool) (tokens v w : List To
     → IsOperandAt alias rule.pred below tokens w z
 escaped_read alias below n tokens v w x y z e end p o h =
     said_operand alias
-    (subst (λ (s : Span). IsRead (behind_at alias rule.pred) (look_at alias w) rule.pred below tokens w
+    (subst (λ (s : Span). IsRead (behind_at alias rule.pred)
+    (look_at alias w) rule.pred below tokens w
     (operand (whole s (Like x.expr y.expr e n))) s) (sym stands)
     (is_read (read_rule language sound p.said.inside o.done refl (escaped_pass alias below)
     (look_least alias w)) refl)) h
@@ -92,7 +99,8 @@ escaped_missed alias below n tokens v x y fault p o = said_fault p.said o (escap
 
 -- Nothing is left of the alternative, which stands behind others.
 is_put : {after : Ahead (Admitted Class)} {look : ℕ} {r : rule.Rule} {below : ℕ}
-    {a : Roomed rule.Alternative} {vs : List Value} {tokens front rest : List Token} {first last : Span}
+    {a : Roomed rule.Alternative} {vs : List Value} {tokens front rest : List Token}
+    {first last : Span}
     → Inside language after look (at below r) (record { alternative = a; left = [] } ∷ []) vs
     tokens front rest
     → last ≡ span_from first front
@@ -110,14 +118,18 @@ pub escape_none : (alias : Bool) (below : ℕ) (v : List Token) (s : Span)
 unfolding behind behind_at keyword_of is_intro is_called
 escape_none true below v s h =
     is_put (widen language sound (choose language sound
-    (sees_missing (word (codes "escape") ∷ []) v (both_missing _ _ h refl))) (look_least true v)) refl
+    (sees_missing (word (codes "escape") ∷ []) v (both_missing _ _ h refl))) (look_least true v))
+    refl
 escape_none false below v s h =
     is_put (widen language sound (choose language sound
-    (sees_missing (word (codes "escape") ∷ []) v (both_missing _ _ h refl))) (look_least false v)) refl
+    (sees_missing (word (codes "escape") ∷ []) v (both_missing _ _ h refl))) (look_least false v))
+    refl
 
-escape_here : (alias : Bool) (below : ℕ) (r s : Span) (text : List ℕ) (v : List Token) (first : Span)
+escape_here : (alias : Bool) (below : ℕ) (r s : Span) (text : List ℕ) (v : List Token)
+    (first : Span)
     → IsPut (behind_at alias rule.escape_option) (look_at alias v) rule.escape_option below
-    (record { span = r; kind = lexeme.Word (codes "escape") } ∷ (record { span = s; kind = lexeme.Str text } ∷ v)) v
+    (record { span = r; kind = lexeme.Word (codes "escape") } ∷
+    (record { span = s; kind = lexeme.Str text } ∷ v)) v
     (maybe_text (Some text)) first (from_to first s)
 unfolding behind behind_at keyword_of is_intro is_called
 escape_here true below r s text v first =
@@ -140,7 +152,8 @@ escape_read alias below tokens u v said text first last n k e ends =
     (sym (ends ∙ ap (λ (z : List Token). from_to first (span_at z)) k.same))
     (subst (λ (z : List Token). IsPut (behind_at alias rule.escape_option) (look_at alias v)
     rule.escape_option below z v (maybe_text (Some said)) first (from_to first k.span))
-    (sym (n.same ∙ ap (λ (z : List Token). record { span = n.span; kind = lexeme.Word (codes "escape") } ∷ z) k.same))
+    (sym (n.same ∙ ap (λ (z : List Token). record
+    { span = n.span; kind = lexeme.Word (codes "escape") } ∷ z) k.same))
     (escape_here alias below n.span k.span said v first)))
 
 no_string : (v : List Token) → IsTrue (is_missing str v)
@@ -154,16 +167,20 @@ no_string (t ∷ v) h = by_test (is_lexeme_of str t.kind) h
 
 -- The word is left for an alias.
 escape_left_here : (below : ℕ) (r : Span) (v : List Token) (s : Span) → IsTrue (is_missing str v)
-    → IsPut (behind_at true rule.escape_option) (look_at true (record { span = r; kind = lexeme.Word (codes "escape") } ∷ v))
-    rule.escape_option below (record { span = r; kind = lexeme.Word (codes "escape") } ∷ v) (record { span = r; kind = lexeme.Word (codes "escape") } ∷ v) (maybe_text None) s s
+    → IsPut (behind_at true rule.escape_option)
+    (look_at true (record { span = r; kind = lexeme.Word (codes "escape") } ∷ v))
+    rule.escape_option below (record { span = r; kind = lexeme.Word (codes "escape") } ∷ v)
+    (record { span = r; kind = lexeme.Word (codes "escape") } ∷ v) (maybe_text None) s s
 unfolding behind behind_at keyword_of is_intro is_called
 escape_left_here below r v s h =
-    is_put (choose language sound (sees_not_two language sound (record { span = r; kind = lexeme.Word (codes "escape") } ∷ v)
+    is_put (choose language sound
+    (sees_not_two language sound (record { span = r; kind = lexeme.Word (codes "escape") } ∷ v)
     (Some (record { class = word (codes "escape"); has_room = true })) (no_string v h))) refl
 
 pub escape_left : (alias : Bool) (below : ℕ) (tokens v : List Token) (s : Span) → IsTrue alias
     → IsNext (lexeme.Word (codes "escape")) tokens v → IsTrue (is_missing str v)
-    → IsPut (behind_at alias rule.escape_option) (look_at alias tokens) rule.escape_option below tokens
+    → IsPut (behind_at alias rule.escape_option) (look_at alias tokens) rule.escape_option below
+    tokens
     tokens (maybe_text None) s s
 escape_left true below tokens v s a n h =
     subst (λ (z : List Token). IsPut (behind_at true rule.escape_option) (look_at true z)
@@ -172,7 +189,8 @@ escape_left true below tokens v s a n h =
 escape_left false below tokens v s a n h = cc
 
 escape_missed_here : (below : ℕ) (r : Span) (v : List Token) → IsTrue (is_missing str v)
-    → IsFault (behind_at false rule.escape_option) rule.escape_option below (record { span = r; kind = lexeme.Word (codes "escape") } ∷ v)
+    → IsFault (behind_at false rule.escape_option) rule.escape_option below
+    (record { span = r; kind = lexeme.Word (codes "escape") } ∷ v)
     (NoReading (length v))
 unfolding behind behind_at keyword_of is_intro is_called
 escape_missed_here below r v h =
@@ -186,14 +204,17 @@ escape_missed true below tokens v left a n h e = cc
 escape_missed false below tokens v left a n h e =
     subst (λ (m : ℕ). IsFault (behind_at false rule.escape_option) rule.escape_option below tokens
     (NoReading m)) (sym e)
-    (subst (λ (z : List Token). IsFault (behind_at false rule.escape_option) rule.escape_option below z
+    (subst (λ (z : List Token). IsFault (behind_at false rule.escape_option) rule.escape_option
+    below z
     (NoReading (length v))) (sym n.same) (escape_missed_here below n.span v h))
 
 -- BETWEEN
 
 ranged_pass : (alias : Bool) (below : ℕ)
     → IsTrue (all_pass language (behind_at alias rule.pred)
-    (place_of below rule.ranged (with_room (suc below) [] (one (word (codes "and")) ∷ a_rule rule.sum ∷ [])) ∷ []) (behind rule.sum))
+    (place_of below rule.ranged
+    (with_room (suc below) [] (one (word (codes "and")) ∷ a_rule rule.sum ∷ [])) ∷ [])
+    (behind rule.sum))
 unfolding behind behind_at keyword_of is_intro is_called
 ranged_pass true below = refl
 ranged_pass false below = refl
@@ -211,11 +232,14 @@ ranged_on : (alias : Bool) (below : ℕ) (n : Bool) (tokens v w u : List Token) 
     → (next : IsNext (lexeme.Word (codes "and")) w u)
     → IsSaid alias below rule.ranged (with_room (suc below) [] (a_rule rule.sum ∷ []))
     (operand (as_operand x) ∷ flag n ∷ a_token p.token ∷ operand (as_operand y)
-    ∷ a_token (record { span = next.span; kind = lexeme.Word (codes "and") }) ∷ []) tokens u x.extent next.span
+    ∷ a_token (record { span = next.span; kind = lexeme.Word (codes "and") }) ∷ []) tokens
+    u x.extent next.span
 ranged_on alias below n tokens v w u x y p o next =
-    let q : IsOperand rule.sum below v (record { span = next.span; kind = lexeme.Word (codes "and") } ∷ u) y =
+    let q : IsOperand rule.sum below v
+    (record { span = next.span; kind = lexeme.Word (codes "and") } ∷ u) y =
     subst (λ (t : List Token). IsOperand rule.sum below v t y) next.same o in
-    said_token (record { span = next.span; kind = lexeme.Word (codes "and") }) (said_rule p.said q (ranged_pass alias below) (read_takes q refl)) refl
+    said_token (record { span = next.span; kind = lexeme.Word (codes "and") })
+    (said_rule p.said q (ranged_pass alias below) (read_takes q refl)) refl
 
 pub ranged_read : (alias : Bool) (below : ℕ) (n : Bool) (tokens v w u r : List Token)
     (x y k z : Found) → IsRanging alias below n tokens v x → IsOperand rule.sum below v w y
@@ -231,7 +255,8 @@ pub ranged_first_missed : (alias : Bool) (below : ℕ) (n : Bool) (tokens v : Li
     (fault : Fault) → IsRanging alias below n tokens v x
     → IsFault (behind rule.sum) rule.sum below v fault
     → IsFault (behind_at alias rule.pred) rule.pred below tokens fault
-ranged_first_missed alias below n tokens v x fault p o = said_fault p.said o (ranged_pass alias below)
+ranged_first_missed alias below n tokens v x fault p o = said_fault p.said o
+    (ranged_pass alias below)
 
 pub ranged_and_missed : (alias : Bool) (below : ℕ) (n : Bool) (tokens v w : List Token)
     (x y : Found) (left : ℕ) → IsRanging alias below n tokens v x → IsOperand rule.sum below v w y
@@ -239,18 +264,21 @@ pub ranged_and_missed : (alias : Bool) (below : ℕ) (n : Bool) (tokens v w : Li
     → IsFault (behind_at alias rule.pred) rule.pred below tokens (NoReading left)
 unfolding behind behind_at keyword_of is_intro is_called
 ranged_and_missed true below n tokens v w x y left p o h e =
-    subst (λ (m : ℕ). IsFault (behind_at true rule.pred) rule.pred below tokens (NoReading m)) (sym e)
+    subst (λ (m : ℕ). IsFault (behind_at true rule.pred) rule.pred below tokens (NoReading m))
+    (sym e)
     (is_missed (read_rule language sound p.said.inside o.done refl (ranged_pass true below)
     (omega arith)) (sees_missing (word (codes "and") ∷ []) w (both_missing _ _ h refl)) refl
     (omega arith))
 ranged_and_missed false below n tokens v w x y left p o h e =
-    subst (λ (m : ℕ). IsFault (behind_at false rule.pred) rule.pred below tokens (NoReading m)) (sym e)
+    subst (λ (m : ℕ). IsFault (behind_at false rule.pred) rule.pred below tokens (NoReading m))
+    (sym e)
     (is_missed (read_rule language sound p.said.inside o.done refl (ranged_pass false below)
     (omega arith)) (sees_missing (word (codes "and") ∷ []) w (both_missing _ _ h refl)) refl
     (omega arith))
 
 pub ranged_last_missed : (alias : Bool) (below : ℕ) (n : Bool) (tokens v w u : List Token)
-    (x y : Found) (fault : Fault) → IsRanging alias below n tokens v x → IsOperand rule.sum below v w y
+    (x y : Found) (fault : Fault) → IsRanging alias below n tokens v x
+    → IsOperand rule.sum below v w y
     → IsNext (lexeme.Word (codes "and")) w u → IsFault (behind rule.sum) rule.sum below u fault
     → IsFault (behind_at alias rule.pred) rule.pred below tokens fault
 ranged_last_missed alias below n tokens v w u x y fault p o next q =
@@ -261,23 +289,29 @@ ranged_last_missed alias below n tokens v w u x y fault p o next q =
 -- Behind the parenthesis that opens.
 abbrev IsOpened : Bool → ℕ → Bool → List Token → List Token → Found → Token → Token → Type 0
 IsOpened alias m n tokens u x word_token t =
-    IsSaid alias (suc m) rule.listed (with_room (suc (suc m)) (true ∷ true ∷ false ∷ []) (a_rule rule.or ∷ a_rule rule.more_ors ∷ one (mark sign.RightParen) ∷ []))
+    IsSaid alias (suc m) rule.listed
+    (with_room (suc (suc m)) (true ∷ true ∷ false ∷ [])
+    (a_rule rule.or ∷ a_rule rule.more_ors ∷ one (mark sign.RightParen) ∷ []))
     (operand (as_operand x) ∷ flag n ∷ a_token word_token ∷ a_token t ∷ []) tokens u x.extent t.span
 
 opened : (alias : Bool) (m : ℕ) (n : Bool) (tokens v u : List Token) (x : Found)
     → (p : IsListing alias (suc m) n tokens v x) → (o : IsNext (lexeme.Sym sign.LeftParen) v u)
-    → IsOpened alias m n tokens u x p.token (record { span = o.span; kind = lexeme.Sym sign.LeftParen })
+    → IsOpened alias m n tokens u x p.token
+    (record { span = o.span; kind = lexeme.Sym sign.LeftParen })
 opened alias m n tokens v u x p o =
     said_token (record { span = o.span; kind = lexeme.Sym sign.LeftParen })
     (subst (λ (z : List Token). IsSaid alias (suc m) rule.listed
     (with_room (suc (suc m)) (true ∷ true ∷ true ∷ false ∷ [])
-    (one (mark sign.LeftParen) ∷ a_rule rule.or ∷ a_rule rule.more_ors ∷ one (mark sign.RightParen) ∷ []))
-    (operand (as_operand x) ∷ flag n ∷ a_token p.token ∷ []) tokens z x.extent p.last) o.same p.said)
+    (one (mark sign.LeftParen) ∷ a_rule rule.or ∷ a_rule rule.more_ors ∷ one
+    (mark sign.RightParen) ∷ []))
+    (operand (as_operand x) ∷ flag n ∷ a_token p.token ∷ []) tokens z x.extent p.last) o.same
+    p.said)
     refl
 
 listed_pass : (alias : Bool) (m : ℕ)
     → IsTrue (all_pass language (behind_at alias rule.pred) (place_of (suc m) rule.listed
-    (with_room (suc (suc m)) (true ∷ false ∷ []) (a_rule rule.more_ors ∷ one (mark sign.RightParen) ∷ []))
+    (with_room (suc (suc m)) (true ∷ false ∷ [])
+    (a_rule rule.more_ors ∷ one (mark sign.RightParen) ∷ []))
     ∷ []) (behind_at false rule.or))
 unfolding behind behind_at keyword_of is_intro is_called
 listed_pass true m = refl
@@ -327,22 +361,28 @@ listed_missed_here true m n tokens v u x fault p o (inr (inl q)) =
     said_fault (said_rule (opened true m n tokens v u x p o) q.1.0.first (listed_pass true m)
     (read_takes q.1.0.first refl)) q.1.1 (listed_more_pass true m)
 listed_missed_here true m n tokens v u x fault p o (inr (inr q)) =
-    subst (λ (f : Fault). IsFault (behind_at true rule.pred) rule.pred (suc m) tokens f) (sym q.1.1.1)
+    subst (λ (f : Fault). IsFault (behind_at true rule.pred) rule.pred (suc m) tokens f)
+    (sym q.1.1.1)
     (is_missed (read_rule language sound
     (said_rule (opened true m n tokens v u x p o) q.1.0.some.first (listed_pass true m)
-    (read_takes q.1.0.some.first refl)).inside q.1.0.more refl (listed_more_pass true m) (omega arith))
-    (sees_missing (mark sign.RightParen ∷ []) q.0 (both_missing _ _ q.1.1.0 refl)) refl (omega arith))
+    (read_takes q.1.0.some.first refl)).inside q.1.0.more refl (listed_more_pass true m)
+    (omega arith))
+    (sees_missing (mark sign.RightParen ∷ []) q.0 (both_missing _ _ q.1.1.0 refl)) refl
+    (omega arith))
 listed_missed_here false m n tokens v u x fault p o (inl q) =
     said_fault (opened false m n tokens v u x p o) q (listed_pass false m)
 listed_missed_here false m n tokens v u x fault p o (inr (inl q)) =
     said_fault (said_rule (opened false m n tokens v u x p o) q.1.0.first (listed_pass false m)
     (read_takes q.1.0.first refl)) q.1.1 (listed_more_pass false m)
 listed_missed_here false m n tokens v u x fault p o (inr (inr q)) =
-    subst (λ (f : Fault). IsFault (behind_at false rule.pred) rule.pred (suc m) tokens f) (sym q.1.1.1)
+    subst (λ (f : Fault). IsFault (behind_at false rule.pred) rule.pred (suc m) tokens f)
+    (sym q.1.1.1)
     (is_missed (read_rule language sound
     (said_rule (opened false m n tokens v u x p o) q.1.0.some.first (listed_pass false m)
-    (read_takes q.1.0.some.first refl)).inside q.1.0.more refl (listed_more_pass false m) (omega arith))
-    (sees_missing (mark sign.RightParen ∷ []) q.0 (both_missing _ _ q.1.1.0 refl)) refl (omega arith))
+    (read_takes q.1.0.some.first refl)).inside q.1.0.more refl (listed_more_pass false m)
+    (omega arith))
+    (sees_missing (mark sign.RightParen ∷ []) q.0 (both_missing _ _ q.1.1.0 refl)) refl
+    (omega arith))
 
 pub listed_missed : (alias : Bool) (below m : ℕ) (n : Bool) (tokens v u : List Token) (x : Found)
     (fault : Fault) → below ≡ suc m → IsListing alias below n tokens v x
@@ -353,9 +393,11 @@ listed_missed alias below m n tokens v u x fault e p o q =
     (listed_missed_here alias m n tokens v u x fault
     (subst (λ (b : ℕ). IsListing alias b n tokens v x) e p) o q)
 
-listed_deep_here : (alias : Bool) (n : Bool) (tokens : List Token) (s : Span) (v : List Token) (x : Found)
+listed_deep_here : (alias : Bool) (n : Bool) (tokens : List Token) (s : Span) (v : List Token)
+    (x : Found)
     → IsListing alias 0 n tokens (record { span = s; kind = lexeme.Sym sign.LeftParen } ∷ v) x
-    → IsFault (behind_at alias rule.pred) rule.pred 0 tokens (TooDeep (length (record { span = s; kind = lexeme.Sym sign.LeftParen } ∷ v)))
+    → IsFault (behind_at alias rule.pred) rule.pred 0 tokens
+    (TooDeep (length (record { span = s; kind = lexeme.Sym sign.LeftParen } ∷ v)))
 listed_deep_here alias n tokens s v x p = is_barred_here p.said.inside refl (omega arith)
 
 pub listed_deep : (alias : Bool) (below : ℕ) (n : Bool) (tokens v u : List Token) (x : Found)
@@ -378,10 +420,14 @@ pub listed_paren_missed : (alias : Bool) (below : ℕ) (n : Bool) (tokens v : Li
     → IsFault (behind_at alias rule.pred) rule.pred below tokens (NoReading left)
 unfolding behind behind_at keyword_of is_intro is_called
 listed_paren_missed true below n tokens v x left p h e =
-    subst (λ (k : ℕ). IsFault (behind_at true rule.pred) rule.pred below tokens (NoReading k)) (sym e)
-    (is_missed p.said.inside (sees_missing (mark sign.LeftParen ∷ []) v (both_missing _ _ h refl)) refl
+    subst (λ (k : ℕ). IsFault (behind_at true rule.pred) rule.pred below tokens (NoReading k))
+    (sym e)
+    (is_missed p.said.inside (sees_missing (mark sign.LeftParen ∷ []) v (both_missing _ _ h refl))
+    refl
     (omega arith))
 listed_paren_missed false below n tokens v x left p h e =
-    subst (λ (k : ℕ). IsFault (behind_at false rule.pred) rule.pred below tokens (NoReading k)) (sym e)
-    (is_missed p.said.inside (sees_missing (mark sign.LeftParen ∷ []) v (both_missing _ _ h refl)) refl
+    subst (λ (k : ℕ). IsFault (behind_at false rule.pred) rule.pred below tokens (NoReading k))
+    (sym e)
+    (is_missed p.said.inside (sees_missing (mark sign.LeftParen ∷ []) v (both_missing _ _ h refl))
+    refl
     (omega arith))

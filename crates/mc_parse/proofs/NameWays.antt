@@ -1,5 +1,7 @@
 -- The ways through a function that reads a name.
-use Rattle.std.proofs.Common.{◌≡◌, refl, sym, ap, ◌∙◌, subst, inl, inr, ℕ, ◌≤◌, Bool, true, false, not, ◌&&◌, List, [], ◌∷◌, IsTrue, Option, Some, None, length, arith, codes}
+use Rattle.std.proofs.Common.{◌≡◌, refl, sym, ap, ◌∙◌, subst, inl, inr, ℕ, ◌≤◌, Bool, true, false}
+use Rattle.std.proofs.Common.{not, ◌&&◌, List, [], ◌∷◌, IsTrue, Option, Some, None, length, arith}
+use Rattle.std.proofs.Common.{codes}
 use Rattle.std.specs.Str.{bytes_eq}
 use Rattle.std.proofs.lemmas.Slice.Eq.{bytes_eq-Decides}
 use Rattle.mc_base.specs.declared.span.Span.{Span}
@@ -13,7 +15,8 @@ use Rattle.mc_grammar.specs.Room.{Admitted}
 use Rattle.mc_grammar.proofs.Seeing.{sees_next}
 use Rattle.mc_grammar.proofs.Inside.{enter}
 use Rattle.mc_grammar.proofs.Ways.{choose, take_token, widen}
-use Rattle.mc_sql.specs.Classes.{Class, word, mark, name, called, called_otherwise, intro, int, str, national, hex, is_reserved, is_intro, is_called, is_lexeme_of}
+use Rattle.mc_sql.specs.Classes.{Class, word, mark, name, called, called_otherwise, intro, int, str}
+use Rattle.mc_sql.specs.Classes.{national, hex, is_reserved, is_intro, is_called, is_lexeme_of}
 use Rattle.mc_sql.specs.Rules as rule
 use Rattle.mc_ast.specs.Values.{Value, lexeme_text, collation}
 use Rattle.mc_parse.specs.declared.fault.Fault.TheVariants.{NoReading}
@@ -59,7 +62,8 @@ class_named _ _ h m = cc
 -- A name tells that what may be met is of it.
 pub sees_name : (t : Token) (ts : List Token) → IsTrue (is_lexeme_of name t.kind)
     → Sees language 1 (t ∷ ts) (λ k. may_be_named k)
-sees_name t ts h = record { sees = λ w same k m. lets k ((sees_next language sound (t ∷ ts)).sees w same k m) }
+sees_name t ts h = record
+    { sees = λ w same k m. lets k ((sees_next language sound (t ∷ ts)).sees w same k m) }
   where
     lets : (k : Option (Admitted Class)) → IsTrue (is_met language k (t ∷ ts))
         → IsTrue (may_be_named k)
@@ -78,7 +82,8 @@ named : (below : ℕ) (t : Token) (ts : List Token) → IsTrue (is_lexeme_of nam
 unfolding behind keyword_of is_intro is_called
 named below t ts h =
     is_read (widen language sound (take_token language sound
-    (choose language sound (sees_name t ts h)) (only_next (is_lexeme_of name t.kind) h)) (omega arith)) refl
+    (choose language sound (sees_name t ts h)) (only_next (is_lexeme_of name t.kind) h))
+    (omega arith)) refl
 
 pub name_read : (below : ℕ) (tokens rest : List Token) (said text : List ℕ) (span : Span)
     → IsTextOf name tokens rest said → text ≡ said → span ≡ span_at tokens
@@ -129,5 +134,6 @@ name_missed below tokens left h k e =
     subst (λ (n : ℕ). IsFault (behind rule.name_or_binary) rule.name_or_binary below tokens
     (NoReading n)) (sym e)
     (is_missed (enter language _ _ _)
-    (sees_missing (name ∷ word (codes "binary") ∷ []) tokens (both_missing _ _ h (both_missing _ _ k refl)))
+    (sees_missing (name ∷ word (codes "binary") ∷ []) tokens
+    (both_missing _ _ h (both_missing _ _ k refl)))
     refl (omega arith))

@@ -13,7 +13,8 @@ use Rattle.mc_parse.specs.declared.fault.ParseFault.{ParseFault}
 use Rattle.mc_parse.specs.declared.fault.ParseFault.TheVariants.{NoReading, TooDeep, NoMemory}
 
 -- A tree within the limit is a tree.
-abbrev tree_of : (tokens : List Token) (tree : Statement) → IsTreeWithin tokens tree → IsTreeOf tokens tree
+abbrev tree_of : (tokens : List Token) (tree : Statement) → IsTreeWithin tokens tree
+    → IsTreeOf tokens tree
 tree_of tokens tree p = record { reading = p.reading; reads = p.reads; means = p.means }
 
 -- Its reading is one within the limit.

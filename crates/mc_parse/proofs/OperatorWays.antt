@@ -1,5 +1,6 @@
 -- The ways through the functions that read operators on values.
-use Rattle.std.proofs.Common.{◌≡◌, refl, sym, ap, ◌∙◌, subst, inl, inr, ℕ, zero, suc, ◌+◌, ◌<◌, ◌≤◌, Bool, not, ◌&&◌, List, [], ◌∷◌, ◌++◌, IsTrue, length, arith, codes}
+use Rattle.std.proofs.Common.{◌≡◌, refl, sym, ap, ◌∙◌, subst, inl, inr, ℕ, zero, suc, ◌+◌, ◌<◌, ◌≤◌}
+use Rattle.std.proofs.Common.{Bool, not, ◌&&◌, List, [], ◌∷◌, ◌++◌, IsTrue, length, arith, codes}
 use Rattle.mc_base.specs.declared.span.Span.{Span}
 use Rattle.mc_token.specs.declared.lexeme.Lexeme.TheVariants as lexeme
 use Rattle.mc_token.specs.declared.lexeme.Symbol.TheVariants.{Minus, Plus, Star, Percent}
@@ -12,7 +13,8 @@ use Rattle.mc_sql.specs.Classes.{word, mark, is_intro, is_called}
 use Rattle.mc_sql.specs.Rules as rule
 use Rattle.mc_ast.specs.Grouping.{whole, grouped, under}
 use Rattle.mc_ast.specs.Spans.{from_to, span_from, span_of}
-use Rattle.mc_ast.specs.Values.{Operand, Operation, Collation, operand, operations, collation, collations}
+use Rattle.mc_ast.specs.Values.{Operand, Operation, Collation, operand, operations, collation}
+use Rattle.mc_ast.specs.Values.{collations}
 use Rattle.mc_ast.specs.declared.expr.Form.TheVariants.{Arith, Neg, Collate}
 use Rattle.mc_ast.specs.declared.operators.ArithOp.{ArithOp}
 use Rattle.mc_ast.specs.declared.operators.ArithOp.TheVariants.{Add, Sub, Mul, Div, Mod}
@@ -24,8 +26,10 @@ use Rattle.mc_parse.specs.Place.{is_missing, are_missing, span_at, IsNext}
 use Rattle.mc_parse.specs.Read.{IsRead, IsFault, as_operand, IsOperand, IsFolded}
 use Rattle.mc_parse.specs.Signs.{factor_signs, summand_signs, IsFactorSign, IsSummandSign}
 use Rattle.mc_parse.proofs.Spans.{span_from-one, span_of-one}
-use Rattle.mc_parse.proofs.Ways.{sound, both_missing, sees_missing, is_read, is_fault, is_missed, is_barred_here, is_link_fault, read_takes, link_shorter}
-use Rattle.mc_parse.proofs.Folds.{IsFolding, folds_none, folds_link, folds_all, grouped-last, under-last}
+use Rattle.mc_parse.proofs.Ways.{sound, both_missing, sees_missing, is_read, is_fault, is_missed}
+use Rattle.mc_parse.proofs.Ways.{is_barred_here, is_link_fault, read_takes, link_shorter}
+use Rattle.mc_parse.proofs.Folds.{IsFolding, folds_none, folds_link, folds_all, grouped-last}
+use Rattle.mc_parse.proofs.Folds.{under-last}
 use Rattle.mc_parse.proofs.Groups.{group_read}
 
 -- COLLATE
@@ -38,7 +42,8 @@ IsCollating below tokens rest first now =
 
 collate_here : (below : ℕ) (tokens : List Token) (s : Span) (v w : List Token)
     (first now next : Operand) (c : Collation)
-    → IsCollating below tokens (record { span = s; kind = lexeme.Word (codes "collate") } ∷ v) first now
+    → IsCollating below tokens (record { span = s; kind = lexeme.Word (codes "collate") } ∷ v) first
+    now
     → IsRead (behind rule.name_or_binary) 1 rule.name_or_binary below v w (collation c) c.extent
     → next ≡ whole (from_to now.extent c.extent) (Collate now.expr c.name)
     → IsCollating below tokens w first next
@@ -48,7 +53,8 @@ collate_here below tokens s v w first now next c p o h =
     (read_rule language sound (take_token language sound
     (choose language sound (sees_next language sound _)) refl) o.done refl refl (omega arith))
     (λ later others. refl)
-    (λ links e. h ∙ ap (λ (y : Operand). whole (from_to y.extent c.extent) (Collate y.expr c.name)) e
+    (λ links e. h ∙ ap (λ (y : Operand). whole (from_to y.extent c.extent) (Collate y.expr c.name))
+    e
     ∙ sym (under-last first links c))
     (ap (λ (y : Operand). y.extent) h ∙ ap (λ (x : Span). from_to now.extent x) o.whole
     ∙ span_from-one now.extent (record { span = s; kind = lexeme.Word (codes "collate") })
@@ -89,7 +95,8 @@ pub collate_missed : (below : ℕ) (tokens rest v : List Token) (first now : Ope
     → IsFault (behind rule.more_collates) rule.more_collates below tokens fault
 collate_missed below tokens rest v first now fault p n o =
     is_link_fault p.chain
-    (subst (λ (x : List Token). IsFault (behind rule.more_collates) rule.more_collates below x fault)
+    (subst (λ (x : List Token). IsFault (behind rule.more_collates) rule.more_collates below
+    x fault)
     (sym n.same) (collate_missed_here below n.span v fault o)) (omega arith)
 
 pub coll_read : (below : ℕ) (tokens v w : List Token) (x y : Found)
@@ -198,7 +205,8 @@ pub minus_deep : (below : ℕ) (tokens v : List Token) (left : ℕ) → below �
     → IsFault (behind rule.neg) rule.neg below tokens (TooDeep left)
 minus_deep below tokens v left e n l =
     subst (λ (m : ℕ). IsFault (behind rule.neg) rule.neg below tokens (TooDeep m)) (sym l)
-    (subst (λ (m : ℕ). IsFault (behind rule.neg) rule.neg m tokens (TooDeep (length tokens))) (sym e)
+    (subst (λ (m : ℕ). IsFault (behind rule.neg) rule.neg m tokens (TooDeep (length tokens)))
+    (sym e)
     (subst (λ (z : List Token). IsFault (behind rule.neg) rule.neg 0 z (TooDeep (length z)))
     (sym n.same) (minus_deep_here n.span v)))
 
@@ -207,7 +215,8 @@ minus_deep below tokens v left e n l =
 -- Links of factors are read.
 abbrev pub IsMultiplying : ℕ → List Token → List Token → Operand → Operand → Type 0
 IsMultiplying below tokens rest first now =
-    IsFolding (behind rule.more_negs) 1 rule.more_negs operations grouped below tokens rest first now
+    IsFolding (behind rule.more_negs) 1 rule.more_negs operations grouped below tokens rest first
+    now
 
 abbrev link_of : ArithOp → Found → Operation
 link_of op x = record { op = op; right = as_operand x }
@@ -248,7 +257,8 @@ times_here below tokens s v w first now next x p o h =
 
 div_here : (below : ℕ) (tokens : List Token) (s : Span) (v w : List Token)
     (first now next : Operand) (x : Found)
-    → IsMultiplying below tokens (record { span = s; kind = lexeme.Word (codes "div") } ∷ v) first now
+    → IsMultiplying below tokens (record { span = s; kind = lexeme.Word (codes "div") } ∷ v) first
+    now
     → IsOperand rule.neg below v w x
     → next ≡ whole (from_to now.extent x.extent) (Arith Div now.expr x.expr)
     → IsMultiplying below tokens w first next
@@ -278,7 +288,8 @@ percent_here below tokens s v w first now next x p o h =
 
 mod_here : (below : ℕ) (tokens : List Token) (s : Span) (v w : List Token)
     (first now next : Operand) (x : Found)
-    → IsMultiplying below tokens (record { span = s; kind = lexeme.Word (codes "mod") } ∷ v) first now
+    → IsMultiplying below tokens (record { span = s; kind = lexeme.Word (codes "mod") } ∷ v) first
+    now
     → IsOperand rule.neg below v w x
     → next ≡ whole (from_to now.extent x.extent) (Arith Mod now.expr x.expr)
     → IsMultiplying below tokens w first next
@@ -315,7 +326,8 @@ factor_read below tokens rest v w first now next op x p (inr (inr (inr n))) o h 
 
 pub factors_read : (below : ℕ) (tokens rest : List Token) (first now : Operand)
     → IsMultiplying below tokens rest first now → IsTrue (are_missing factor_signs rest)
-    → IsFolded (behind rule.more_negs) 1 rule.more_negs operations grouped below tokens rest first now
+    → IsFolded (behind rule.more_negs) 1 rule.more_negs operations grouped below tokens rest first
+    now
 unfolding behind keyword_of is_intro is_called
 factors_read below tokens rest first now p h =
     folds_all p (choose language sound (sees_missing factor_signs rest h)) refl (omega arith)
@@ -363,7 +375,8 @@ pub factor_missed : (below : ℕ) (tokens rest v : List Token) (first now : Oper
 factor_missed below tokens rest v first now op fault p sign o =
     is_link_fault p.chain (by_sign sign) (omega arith)
   where
-    by_sign : IsFactorSign op rest v → IsFault (behind rule.more_negs) rule.more_negs below rest fault
+    by_sign : IsFactorSign op rest v → IsFault (behind rule.more_negs) rule.more_negs below rest
+        fault
     by_sign (inl n) = subst (λ (x : List Token). IsFault (behind rule.more_negs) rule.more_negs
         below x fault) (sym n.0.same) (times_missed below n.0.span v fault o)
     by_sign (inr (inl n)) = subst (λ (x : List Token). IsFault (behind rule.more_negs)
@@ -411,7 +424,8 @@ prod_more_missed below tokens v x fault p o =
 -- Links of summands are read.
 abbrev pub IsAdding : ℕ → List Token → List Token → Operand → Operand → Type 0
 IsAdding below tokens rest first now =
-    IsFolding (behind rule.more_prods) 1 rule.more_prods operations grouped below tokens rest first now
+    IsFolding (behind rule.more_prods) 1 rule.more_prods operations grouped below tokens rest first
+    now
 
 plus_here : (below : ℕ) (tokens : List Token) (s : Span) (v w : List Token)
     (first now next : Operand) (x : Found)

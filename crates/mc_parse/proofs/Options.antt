@@ -95,3 +95,6 @@ direction_left tokens h g =
     option_left direction_option no_direction
     (word (codes "desc") ∷ word (codes "asc") ∷ []) tokens
     (two_missing (word (codes "desc")) (word (codes "asc")) tokens h g) refl
+
+-- The ways through each function, by its name.
+pub ruleset direction_option_ways = (descending_read, ascending_read, direction_left)

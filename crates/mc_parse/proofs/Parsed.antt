@@ -13,7 +13,7 @@ use Rattle.mc_grammar.proofs.Tops.{too_deep_at}
 use Rattle.mc_sql.specs.Nest.{deeper, nest_limit}
 use Rattle.mc_sql.specs.Rules.{Alternative, statement}
 use Rattle.mc_sql.specs.Statements.{statements}
-use Rattle.mc_sql.proofs.Tables.{tables}
+use Rattle.mc_sql.specs.Tables.{tables}
 use Rattle.mc_sql.proofs.Sound.{covers}
 use Rattle.mc_ast.specs.declared.statement.Statement.{Statement}
 use Rattle.mc_ast.specs.Meaning.{meaning}
@@ -160,3 +160,6 @@ deep_at tokens left end n f e = record {
       (left_behind tokens f.deep.front f.rest left f.deep.split f.place)
       ∙ ap (λ (ts : List Token). place_of end ts) f.deep.next;
 }
+
+-- The ways through each function, by its name.
+pub ruleset placed_ways = (stuck_left, deep_left, stuck_at, deep_at)

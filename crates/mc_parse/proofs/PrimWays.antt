@@ -1,5 +1,7 @@
 -- The ways through the functions that read an operand.
-use Rattle.std.proofs.Common.{◌≡◌, ◌⊎◌, refl, sym, ap, ◌∙◌, subst, inl, inr, ℕ, zero, suc, ◌+◌, ◌<◌, ◌≤◌, Bool, true, false, not, ◌&&◌, ◌||◌, List, [], ◌∷◌, ◌++◌, append-nil, IsTrue, length, map, Option, Some, None, arith, codes}
+use Rattle.std.proofs.Common.{◌≡◌, ◌⊎◌, refl, sym, ap, ◌∙◌, subst, inl, inr, ℕ, zero, suc, ◌+◌, ◌<◌}
+use Rattle.std.proofs.Common.{◌≤◌, Bool, true, false, not, ◌&&◌, ◌||◌, List, [], ◌∷◌, ◌++◌}
+use Rattle.std.proofs.Common.{append-nil, IsTrue, length, map, Option, Some, None, arith, codes}
 use Rattle.std.specs.List.{list_any}
 use Rattle.std.specs.Str.{bytes_eq}
 use Rattle.std.specs.Prelude.{ℤ}
@@ -15,7 +17,9 @@ use Rattle.mc_grammar.specs.Reading.{leaf, IsOneOf}
 use Rattle.mc_grammar.specs.Ahead.{Ahead, every, is_part, BeginsWhole, MeetsWhole}
 use Rattle.mc_grammar.specs.Language.{Reads}
 use Rattle.mc_grammar.specs.Descent.{Allows, Alike}
-use Rattle.mc_grammar.specs.Places.{Place, behind_next, before, all_pass, all_out, is_met, is_met_whole, stands_behind, Sees, Inside, Done, Fails, IsTooDeep}
+use Rattle.mc_grammar.specs.Places.{Place, behind_next, before, all_pass, all_out, is_met}
+use Rattle.mc_grammar.specs.Places.{is_met_whole, stands_behind, Sees, Inside, Done, Fails}
+use Rattle.mc_grammar.specs.Places.{IsTooDeep}
 use Rattle.mc_grammar.specs.Completions.{completion}
 use Rattle.mc_grammar.specs.Nest.{Marked, bound, free}
 use Rattle.mc_grammar.specs.Room.{Roomed, Admitted, free_completions}
@@ -27,7 +31,8 @@ use Rattle.mc_grammar.proofs.Seeing.{sees_next, sees_two}
 use Rattle.mc_grammar.proofs.Inside.{enter}
 use Rattle.mc_grammar.proofs.Ways as step
 use Rattle.mc_grammar.proofs.Ways.{choose, look, take_token, read_rule, read_rule_far, widen}
-use Rattle.mc_sql.specs.Classes.{Class, word, mark, name, called, called_otherwise, intro, int, str, national, hex, is_reserved, is_intro, is_called, is_lexeme_of}
+use Rattle.mc_sql.specs.Classes.{Class, word, mark, name, called, called_otherwise, intro, int, str}
+use Rattle.mc_sql.specs.Classes.{national, hex, is_reserved, is_intro, is_called, is_lexeme_of}
 use Rattle.mc_token.specs.Marks.{mark_text}
 use Rattle.mc_sql.proofs.Spellings.{spelled, spelled-spelling}
 use Rattle.mc_sql.specs.Completions.{completions}
@@ -42,9 +47,11 @@ use Rattle.mc_parse.specs.declared.fault.Fault.TheVariants.{NoReading, TooDeep, 
 use Rattle.mc_parse.specs.declared.operand.Operand.{Operand as Found}
 use Rattle.mc_parse.specs.Language.{language, at, behind, behind_at}
 use Rattle.mc_parse.specs.Place.{is_missing, are_missing, span_at, IsNext, IsTextOf}
-use Rattle.mc_parse.specs.Primary.{is_caller, begins_call, begins_text, begins_string, plain_literals, IsMissingAt}
+use Rattle.mc_parse.specs.Primary.{is_caller, begins_call, begins_text, begins_string}
+use Rattle.mc_parse.specs.Primary.{plain_literals, IsMissingAt}
 use Rattle.mc_parse.specs.Read.{IsRead, Cause, IsFault, as_operand, IsOperand, IsOperandAt}
-use Rattle.mc_parse.proofs.Ways.{sound, complete, both_missing, sees_missing, is_read, is_fault, is_missed, is_barred_here, read_takes}
+use Rattle.mc_parse.proofs.Ways.{sound, complete, both_missing, sees_missing, is_read, is_fault}
+use Rattle.mc_parse.proofs.Ways.{is_missed, is_barred_here, read_takes}
 use Rattle.mc_parse.proofs.NameWays.{only_next}
 
 -- A token that a rule can begin with is taken
@@ -132,7 +139,8 @@ deep_past r below a k ss t v w i e h g o =
         (begins_with r below a k ss (bound t) i e h)))
 
 -- A rule is not read that all places want next, where more tokens were looked at.
-pub is_fault_far : {after after' : Ahead (Admitted Class)} {n : ℕ} {r q : rule.Rule} {below below' : ℕ}
+pub is_fault_far : {after after' : Ahead (Admitted Class)} {n : ℕ} {r q : rule.Rule}
+    {below below' : ℕ}
     {place : Place (Admitted Class) (Roomed rule.Rule) (Roomed rule.Alternative)}
     {places : List (Place (Admitted Class) (Roomed rule.Rule) (Roomed rule.Alternative))}
     {vs : List Value} {tokens front rest : List Token} {fault : Fault}
@@ -141,10 +149,12 @@ pub is_fault_far : {after after' : Ahead (Admitted Class)} {n : ℕ} {r q : rule
     → place ∷ places ≡ before (a_rule (at below' q)) (behind_next (place ∷ places))
     → IsTrue (all_pass language after (behind_next (place ∷ places)) after')
     → ((w : List Token) (o : Fails language after' (at below' q) rest w) → n ≤ length o.front + 1)
-    → ((w : List Token) (o : IsTooDeep language after' (at below' q) rest w) → n ≤ length o.front + 1)
+    → ((w : List Token) (o : IsTooDeep language after' (at below' q) rest w)
+    → n ≤ length o.front + 1)
     → IsFault after r below tokens fault
 is_fault_far {after = after} {after' = after'} {r = r} {q = q} {below = below} {below' = below'}
-    {place = place} {places = places} {tokens = tokens} {rest = rest} {fault = fault} p o e h lt le =
+    {place = place} {places = places} {tokens = tokens} {rest = rest} {fault = fault} p o e h lt
+    le =
     record { cause = by_cause fault o.cause }
   where
     by_cause : (f : Fault) → Cause after' q below' rest f → Cause after r below tokens f
@@ -156,7 +166,8 @@ is_fault_far {after = after} {after' = after'} {r = r} {q = q} {below = below} {
     }
     by_cause (TooDeep left) c = record {
       rest = c.rest;
-      deep = step.rule_too_deep_far language sound (free_completions completions) complete p c.deep e
+      deep = step.rule_too_deep_far language sound (free_completions completions) complete p c.deep
+          e
           h (le c.rest c.deep);
       place = c.place;
     }
@@ -171,7 +182,8 @@ at_next : (x : Lexeme) (form : Form) (below : ℕ) (tokens rest : List Token) (s
     → s ≡ span_at tokens → as_operand y ≡ whole s form
     → IsOperand rule.prim below tokens rest y
 at_next x form below tokens rest s y n p at_token h =
-    subst (λ (z : Operand). IsRead (behind rule.prim) 1 rule.prim below tokens rest (operand z) z.extent)
+    subst (λ (z : Operand). IsRead (behind rule.prim) 1 rule.prim below tokens rest
+    (operand z) z.extent)
     (sym h)
     (subst (λ (z : Span). IsRead (behind rule.prim) 1 rule.prim below tokens rest
     (operand (whole z form)) z) (sym (at_token ∙ ap span_at n.same))
@@ -192,10 +204,12 @@ pub number_read : (below : ℕ) (n : ℤ) (tokens rest : List Token) (s : Span) 
     → IsNext (lexeme.Int n) tokens rest → s ≡ span_at tokens → as_operand y ≡ whole s (Int n)
     → IsOperand rule.prim below tokens rest y
 number_read below n tokens rest s y next e h =
-    at_next (lexeme.Int n) (Int n) below tokens rest s y next (number_here below next.span n rest) e h
+    at_next (lexeme.Int n) (Int n) below tokens rest s y next
+    (number_here below next.span n rest) e h
 
 true_here : (below : ℕ) (s : Span) (v : List Token)
-    → IsRead (behind rule.prim) 1 rule.prim below (record { span = s; kind = lexeme.Word (codes "true") } ∷ v) v
+    → IsRead (behind rule.prim) 1 rule.prim below
+    (record { span = s; kind = lexeme.Word (codes "true") } ∷ v) v
     (operand (whole s True)) s
 unfolding behind behind_at keyword_of is_intro is_called
 true_here below s v =
@@ -203,13 +217,16 @@ true_here below s v =
     (choose language sound (sees_next language sound _)) refl) (omega arith)) refl
 
 pub true_read : (below : ℕ) (tokens rest : List Token) (s : Span) (y : Found)
-    → IsNext (lexeme.Word (codes "true")) tokens rest → s ≡ span_at tokens → as_operand y ≡ whole s True
+    → IsNext (lexeme.Word (codes "true")) tokens rest → s ≡ span_at tokens
+    → as_operand y ≡ whole s True
     → IsOperand rule.prim below tokens rest y
 true_read below tokens rest s y next e h =
-    at_next (lexeme.Word (codes "true")) True below tokens rest s y next (true_here below next.span rest) e h
+    at_next (lexeme.Word (codes "true")) True below tokens rest s y next
+    (true_here below next.span rest) e h
 
 false_here : (below : ℕ) (s : Span) (v : List Token)
-    → IsRead (behind rule.prim) 1 rule.prim below (record { span = s; kind = lexeme.Word (codes "false") } ∷ v) v
+    → IsRead (behind rule.prim) 1 rule.prim below
+    (record { span = s; kind = lexeme.Word (codes "false") } ∷ v) v
     (operand (whole s False)) s
 unfolding behind behind_at keyword_of is_intro is_called
 false_here below s v =
@@ -217,13 +234,16 @@ false_here below s v =
     (choose language sound (sees_next language sound _)) refl) (omega arith)) refl
 
 pub false_read : (below : ℕ) (tokens rest : List Token) (s : Span) (y : Found)
-    → IsNext (lexeme.Word (codes "false")) tokens rest → s ≡ span_at tokens → as_operand y ≡ whole s False
+    → IsNext (lexeme.Word (codes "false")) tokens rest → s ≡ span_at tokens
+    → as_operand y ≡ whole s False
     → IsOperand rule.prim below tokens rest y
 false_read below tokens rest s y next e h =
-    at_next (lexeme.Word (codes "false")) False below tokens rest s y next (false_here below next.span rest) e h
+    at_next (lexeme.Word (codes "false")) False below tokens rest s y next
+    (false_here below next.span rest) e h
 
 null_here : (below : ℕ) (s : Span) (v : List Token)
-    → IsRead (behind rule.prim) 1 rule.prim below (record { span = s; kind = lexeme.Word (codes "null") } ∷ v) v
+    → IsRead (behind rule.prim) 1 rule.prim below
+    (record { span = s; kind = lexeme.Word (codes "null") } ∷ v) v
     (operand (whole s Null)) s
 unfolding behind behind_at keyword_of is_intro is_called
 null_here below s v =
@@ -231,10 +251,12 @@ null_here below s v =
     (choose language sound (sees_next language sound _)) refl) (omega arith)) refl
 
 pub null_read : (below : ℕ) (tokens rest : List Token) (s : Span) (y : Found)
-    → IsNext (lexeme.Word (codes "null")) tokens rest → s ≡ span_at tokens → as_operand y ≡ whole s Null
+    → IsNext (lexeme.Word (codes "null")) tokens rest → s ≡ span_at tokens
+    → as_operand y ≡ whole s Null
     → IsOperand rule.prim below tokens rest y
 null_read below tokens rest s y next e h =
-    at_next (lexeme.Word (codes "null")) Null below tokens rest s y next (null_here below next.span rest) e h
+    at_next (lexeme.Word (codes "null")) Null below tokens rest s y next
+    (null_here below next.span rest) e h
 
 -- Strings
 
@@ -364,7 +386,8 @@ string_here : (below : ℕ) (t : Token) (v rest : List Token) (x : Found)
 unfolding behind behind_at keyword_of is_intro is_called
 string_here below t v rest x h o =
     let lt : 1 ≤ length o.done.front = read_takes o refl in
-    is_read (read_rule_far language sound (choose language sound (sees_string t v h)) o.done refl refl
+    is_read (read_rule_far language sound (choose language sound (sees_string t v h)) o.done refl
+    refl
     (omega (arith, lt))) o.whole
 
 pub string_read : (below : ℕ) (tokens rest : List Token) (x : Found)
@@ -391,28 +414,34 @@ string_first t v h =
 string_fails_past : (below : ℕ) (t : Token) (v w : List Token) → IsTrue (is_lexeme_of intro t.kind)
     ⊎ (IsTrue (is_lexeme_of str t.kind)
     ⊎ (IsTrue (is_lexeme_of national t.kind) ⊎ IsTrue (is_lexeme_of hex t.kind)))
-    → (o : Fails language (behind rule.string) (at below rule.string) (t ∷ v) w) → 1 ≤ length o.front
+    → (o : Fails language (behind rule.string) (at below rule.string) (t ∷ v) w)
+    → 1 ≤ length o.front
 unfolding behind behind_at keyword_of is_intro is_called
 string_fails_past below t v w (inl h) o =
-    fails_past rule.string below rule.intro_string (intro) _ t v w (inr (inr (inr (inl refl)))) refl h refl o
+    fails_past rule.string below rule.intro_string (intro) _ t v w
+    (inr (inr (inr (inl refl)))) refl h refl o
 string_fails_past below t v w (inr (inl h)) o =
     fails_past rule.string below rule.plain_string (str) _ t v w (inl refl) refl h refl o
 string_fails_past below t v w (inr (inr (inl h))) o =
-    fails_past rule.string below rule.national_string (national) _ t v w (inr (inl refl)) refl h refl o
+    fails_past rule.string below rule.national_string (national) _ t v w
+    (inr (inl refl)) refl h refl o
 string_fails_past below t v w (inr (inr (inr h))) o =
     fails_past rule.string below rule.hex_string (hex) _ t v w (inr (inr (inl refl))) refl h refl o
 
 string_deep_past : (below : ℕ) (t : Token) (v w : List Token) → IsTrue (is_lexeme_of intro t.kind)
     ⊎ (IsTrue (is_lexeme_of str t.kind)
     ⊎ (IsTrue (is_lexeme_of national t.kind) ⊎ IsTrue (is_lexeme_of hex t.kind)))
-    → (o : IsTooDeep language (behind rule.string) (at below rule.string) (t ∷ v) w) → 1 ≤ length o.front
+    → (o : IsTooDeep language (behind rule.string) (at below rule.string) (t ∷ v) w)
+    → 1 ≤ length o.front
 unfolding behind behind_at keyword_of is_intro is_called
 string_deep_past below t v w (inl h) o =
-    deep_past rule.string below rule.intro_string (intro) _ t v w (inr (inr (inr (inl refl)))) refl h refl o
+    deep_past rule.string below rule.intro_string (intro) _ t v w
+    (inr (inr (inr (inl refl)))) refl h refl o
 string_deep_past below t v w (inr (inl h)) o =
     deep_past rule.string below rule.plain_string (str) _ t v w (inl refl) refl h refl o
 string_deep_past below t v w (inr (inr (inl h))) o =
-    deep_past rule.string below rule.national_string (national) _ t v w (inr (inl refl)) refl h refl o
+    deep_past rule.string below rule.national_string (national) _ t v w
+    (inr (inl refl)) refl h refl o
 string_deep_past below t v w (inr (inr (inr h))) o =
     deep_past rule.string below rule.hex_string (hex) _ t v w (inr (inr (inl refl))) refl h refl o
 
@@ -427,7 +456,8 @@ string_missed_here below t v fault h o =
     (λ w f. let lt : 1 ≤ length f.front = string_deep_past below t v w (string_first t v h) f in
     omega (arith, lt))
 
-pub string_missed : (below : ℕ) (tokens : List Token) (fault : Fault) → IsTrue (begins_string tokens)
+pub string_missed : (below : ℕ) (tokens : List Token) (fault : Fault) → IsTrue
+    (begins_string tokens)
     → IsFault (behind rule.string) rule.string below tokens fault
     → IsFault (behind rule.prim) rule.prim below tokens fault
 string_missed below [] fault h o = cc
@@ -508,7 +538,8 @@ record IsCall (tokens : List Token) : Type 0 where
 
 one_mark : (o : _) → IsTrue (is_lexeme_of (mark sign.LeftParen) (lexeme.Sym o))
     → o ≡ sign.LeftParen
-one_mark o h = sym (spelled-spelling o) ∙ ap spelled ((bytes_eq-Decides (mark_text o) (mark_text sign.LeftParen)).0 h)
+one_mark o h = sym (spelled-spelling o) ∙ ap spelled
+    ((bytes_eq-Decides (mark_text o) (mark_text sign.LeftParen)).0 h)
 
 call_of : (tokens : List Token) → IsTrue (begins_call tokens) → IsCall tokens
 call_of [] h = cc
@@ -546,12 +577,15 @@ call_of (t ∷ v) h =
 
 call_here : (below : ℕ) (t : Token) (s : Span) (u rest : List Token) (x : Found)
     → IsTrue (is_caller t.kind)
-    → IsOperand rule.call below (t ∷ (record { span = s; kind = lexeme.Sym sign.LeftParen } ∷ u)) rest x
-    → IsOperand rule.prim below (t ∷ (record { span = s; kind = lexeme.Sym sign.LeftParen } ∷ u)) rest x
+    → IsOperand rule.call below (t ∷ (record { span = s; kind = lexeme.Sym sign.LeftParen } ∷ u))
+    rest x
+    → IsOperand rule.prim below (t ∷ (record { span = s; kind = lexeme.Sym sign.LeftParen } ∷ u))
+    rest x
 unfolding behind behind_at keyword_of is_intro is_called
 call_here below t s u rest x h o =
     let lt : 1 ≤ length o.done.front = read_takes o refl in
-    is_read (read_rule_far language sound (choose language sound (sees_call t s u h)) o.done refl refl
+    is_read (read_rule_far language sound (choose language sound (sees_call t s u h)) o.done refl
+    refl
     (omega (arith, lt))) o.whole
 
 pub call_read : (below : ℕ) (tokens rest : List Token) (x : Found) → IsTrue (begins_call tokens)
@@ -563,7 +597,8 @@ call_read below tokens rest x h o =
     (subst (λ (z : List Token). IsOperand rule.call below z rest x) c.same o))
 
 call_first : (x : Lexeme) → IsTrue (is_caller x) → IsTrue (is_lexeme_of called x)
-    ⊎ (IsTrue (is_lexeme_of (word (codes "cast")) x) ⊎ IsTrue (is_lexeme_of (word (codes "convert")) x))
+    ⊎ (IsTrue (is_lexeme_of (word (codes "cast")) x) ⊎ IsTrue
+    (is_lexeme_of (word (codes "convert")) x))
 call_first x h =
     elim (either (is_lexeme_of called x)
     (is_lexeme_of (word (codes "cast")) x || is_lexeme_of (word (codes "convert")) x) h) [
@@ -578,23 +613,30 @@ call_fails_past : (below : ℕ) (t : Token) (v w : List Token) → IsTrue (is_le
     → (o : Fails language (behind rule.call) (at below rule.call) (t ∷ v) w) → 1 ≤ length o.front
 unfolding behind behind_at keyword_of is_intro is_called
 call_fails_past below t v w (inl h) o =
-    fails_past rule.call below rule.empty_call (called) _ t v w (inr (inr (inr (inr (inr (inr (inr (inr (inr (inl refl)))))))))) refl h refl o
+    fails_past rule.call below rule.empty_call (called) _ t v w
+    (inr (inr (inr (inr (inr (inr (inr (inr (inr (inl refl)))))))))) refl h refl o
 call_fails_past below t v w (inr (inl h)) o =
-    fails_past rule.call below rule.cast_binary_call (word (codes "cast")) _ t v w (inr (inr (inl refl))) refl h refl o
+    fails_past rule.call below rule.cast_binary_call (word (codes "cast")) _ t v w
+    (inr (inr (inl refl))) refl h refl o
 call_fails_past below t v w (inr (inr h)) o =
-    fails_past rule.call below rule.convert_call (word (codes "convert")) _ t v w (inl refl) refl h refl o
+    fails_past rule.call below rule.convert_call (word (codes "convert")) _ t v w
+    (inl refl) refl h refl o
 
 call_deep_past : (below : ℕ) (t : Token) (v w : List Token) → IsTrue (is_lexeme_of called t.kind)
     ⊎ (IsTrue (is_lexeme_of (word (codes "cast")) t.kind)
     ⊎ IsTrue (is_lexeme_of (word (codes "convert")) t.kind))
-    → (o : IsTooDeep language (behind rule.call) (at below rule.call) (t ∷ v) w) → 1 ≤ length o.front
+    → (o : IsTooDeep language (behind rule.call) (at below rule.call) (t ∷ v) w)
+    → 1 ≤ length o.front
 unfolding behind behind_at keyword_of is_intro is_called
 call_deep_past below t v w (inl h) o =
-    deep_past rule.call below rule.empty_call (called) _ t v w (inr (inr (inr (inr (inr (inr (inr (inr (inr (inl refl)))))))))) refl h refl o
+    deep_past rule.call below rule.empty_call (called) _ t v w
+    (inr (inr (inr (inr (inr (inr (inr (inr (inr (inl refl)))))))))) refl h refl o
 call_deep_past below t v w (inr (inl h)) o =
-    deep_past rule.call below rule.cast_binary_call (word (codes "cast")) _ t v w (inr (inr (inl refl))) refl h refl o
+    deep_past rule.call below rule.cast_binary_call (word (codes "cast")) _ t v w
+    (inr (inr (inl refl))) refl h refl o
 call_deep_past below t v w (inr (inr h)) o =
-    deep_past rule.call below rule.convert_call (word (codes "convert")) _ t v w (inl refl) refl h refl o
+    deep_past rule.call below rule.convert_call (word (codes "convert")) _ t v w
+    (inl refl) refl h refl o
 
 call_missed_here : (below : ℕ) (t : Token) (s : Span) (u : List Token) (fault : Fault)
     → IsTrue (is_caller t.kind)

@@ -1,5 +1,7 @@
 -- The ways through the functions that read what is said of a sum.
-use Rattle.std.proofs.Common.{◌≡◌, refl, sym, ap, ◌∙◌, subst, inl, inr, ℕ, zero, suc, ◌+◌, ◌<◌, ◌≤◌, Bool, true, false, not, ◌&&◌, List, [], ◌∷◌, ◌++◌, IsTrue, length, Some, arith, codes}
+use Rattle.std.proofs.Common.{◌≡◌, refl, sym, ap, ◌∙◌, subst, inl, inr, ℕ, zero, suc, ◌+◌, ◌<◌, ◌≤◌}
+use Rattle.std.proofs.Common.{Bool, true, false, not, ◌&&◌, List, [], ◌∷◌, ◌++◌, IsTrue, length}
+use Rattle.std.proofs.Common.{Some, arith, codes}
 use Rattle.mc_base.specs.declared.span.Span.{Span}
 use Rattle.mc_token.specs.declared.lexeme.Lexeme.TheVariants as lexeme
 use Rattle.mc_token.specs.declared.lexeme.Symbol.TheVariants as sign
@@ -7,7 +9,8 @@ use Rattle.mc_token.specs.declared.lexeme.Token.{Token}
 use Rattle.mc_token.specs.Keywords.{keyword_of}
 use Rattle.mc_grammar.specs.Grammar.{Symbol, one, rule as a_rule}
 use Rattle.mc_grammar.specs.Ahead.{Ahead, every}
-use Rattle.mc_grammar.specs.Places.{Place, behind_next, entries, all_pass, all_out, is_next, is_barred, Inside, Done}
+use Rattle.mc_grammar.specs.Places.{Place, behind_next, entries, all_pass, all_out, is_next}
+use Rattle.mc_grammar.specs.Places.{is_barred, Inside, Done}
 use Rattle.mc_grammar.specs.Room.{Roomed, Admitted, with_room}
 use Rattle.mc_grammar.proofs.Seeing.{sees_next}
 use Rattle.mc_grammar.proofs.Inside.{enter}
@@ -28,9 +31,11 @@ use Rattle.mc_parse.specs.Comparisons.{comparison_signs, said_signs, IsCompariso
 use Rattle.mc_parse.specs.Language.{language, at, behind, behind_at, look_at}
 use Rattle.mc_parse.specs.Place.{is_missing, are_missing, span_at, IsNext}
 use Rattle.mc_parse.specs.Read.{IsRead, IsFault, as_operand, IsOperand, IsOperandAt, IsPut}
-use Rattle.mc_parse.specs.Said.{IsSaid, IsComparing, IsTesting, IsMatching, IsEscaping, IsListing, IsRanging}
+use Rattle.mc_parse.specs.Said.{IsSaid, IsComparing, IsTesting, IsMatching, IsEscaping, IsListing}
+use Rattle.mc_parse.specs.Said.{IsRanging}
 use Rattle.mc_parse.proofs.Spans.{span_of-append}
-use Rattle.mc_parse.proofs.Ways.{sound, both_missing, sees_missing, is_read, is_fault, is_missed, is_barred_here, read_takes}
+use Rattle.mc_parse.proofs.Ways.{sound, both_missing, sees_missing, is_read, is_fault, is_missed}
+use Rattle.mc_parse.proofs.Ways.{is_barred_here, read_takes}
 use Rattle.mc_parse.proofs.TruthWays.{look_least}
 
 -- Places with one alternative
@@ -104,7 +109,8 @@ pub said_option : {alias : Bool} {below : ℕ} {a : rule.Alternative}
     {m : ℕ} {value : Value} {k : Admitted Class} (t : Token)
     → IsSaid alias below a (a_rule (at m q) ∷ (one k ∷ left)) vs tokens v first last
     → Done language after' 1 (at m q) v (t ∷ w) value
-    → IsTrue (all_pass language (behind_at alias rule.pred) (place_of below a (one k ∷ left) ∷ []) after')
+    → IsTrue (all_pass language (behind_at alias rule.pred) (place_of below a (one k ∷ left) ∷ [])
+    after')
     → IsTrue (every (λ p. is_next language (language.bound t) p.left)
     (place_of below a (one k ∷ left) ∷ []))
     → IsSaid alias below a left ((vs ++ (value ∷ [])) ++ (a_token t ∷ [])) tokens w first t.span
@@ -122,8 +128,10 @@ pub said_done : {alias : Bool} {below : ℕ} {a : rule.Alternative} {vs : List V
     → IsSaid alias below a [] vs tokens w first last
     → IsRead (behind_at alias rule.pred) (look_at alias w) rule.pred below tokens w
     (meaning a (from_to first last) vs) (from_to first last)
-said_done {alias = alias} {below = below} {a = a} {vs = vs} {tokens = tokens} {w = w} {first = first} {last = last} p =
-    subst (λ (e : Span). IsRead (behind_at alias rule.pred) (look_at alias w) rule.pred below tokens w
+said_done {alias = alias} {below = below} {a = a} {vs = vs} {tokens = tokens} {w = w}
+    {first = first} {last = last} p =
+    subst (λ (e : Span). IsRead (behind_at alias rule.pred) (look_at alias w) rule.pred below tokens
+    w
     (meaning a e vs) e) (sym p.stands)
     (is_read (widen language sound p.inside (look_least alias w)) refl)
 
@@ -140,11 +148,14 @@ said_fault p o h = is_fault p.inside o refl h (omega arith)
 
 -- What is read as an operand, with its form.
 pub said_operand : (alias : Bool) {below : ℕ} {tokens w : List Token} {z y : Operand}
-    → IsRead (behind_at alias rule.pred) (look_at alias w) rule.pred below tokens w (operand z) z.extent
+    → IsRead (behind_at alias rule.pred) (look_at alias w) rule.pred below tokens w
+    (operand z) z.extent
     → y ≡ z
-    → IsRead (behind_at alias rule.pred) (look_at alias w) rule.pred below tokens w (operand y) y.extent
+    → IsRead (behind_at alias rule.pred) (look_at alias w) rule.pred below tokens w
+    (operand y) y.extent
 said_operand alias {below = below} {tokens = tokens} {w = w} p e =
-    subst (λ (x : Operand). IsRead (behind_at alias rule.pred) (look_at alias w) rule.pred below tokens
+    subst (λ (x : Operand). IsRead (behind_at alias rule.pred)
+    (look_at alias w) rule.pred below tokens
     w (operand x) x.extent) (sym e) p
 
 -- Comparisons
@@ -156,12 +167,14 @@ unfolding behind behind_at keyword_of is_intro is_called
 compared_pass true below = refl
 compared_pass false below = refl
 
-pub compared_read : (alias : Bool) (below : ℕ) (op : CmpOp) (tokens v w : List Token) (x y z : Found)
+pub compared_read : (alias : Bool) (below : ℕ) (op : CmpOp) (tokens v w : List Token)
+    (x y z : Found)
     → IsComparing alias below op tokens v x → IsOperand rule.sum below v w y
     → as_operand z ≡ whole (from_to x.extent y.extent) (Compare op x.expr y.expr)
     → IsOperandAt alias rule.pred below tokens w z
 compared_read alias below op tokens v w x y z p o h =
-    said_operand alias (said_done (said_rule p.said o (compared_pass alias below) (read_takes o refl))) h
+    said_operand alias (said_done
+    (said_rule p.said o (compared_pass alias below) (read_takes o refl))) h
 
 pub compared_missed : (alias : Bool) (below : ℕ) (op : CmpOp) (tokens v : List Token) (x : Found)
     (fault : Fault) → IsComparing alias below op tokens v x
@@ -186,39 +199,45 @@ begun false below tokens v x o =
 
 -- One sign is read as a comparison.
 cmp_equal : (below : ℕ) (s : Span) (v : List Token)
-    → IsRead (behind rule.cmp) 1 rule.cmp below (record { span = s; kind = lexeme.Sym sign.Eq } ∷ v) v (comparison cmp.Eq) s
+    → IsRead (behind rule.cmp) 1 rule.cmp below (record { span = s; kind = lexeme.Sym sign.Eq } ∷ v)
+    v (comparison cmp.Eq) s
 unfolding behind behind_at keyword_of is_intro is_called
 cmp_equal below s v =
     is_read (widen language sound (take_token language sound
     (choose language sound (sees_next language sound _)) refl) (omega arith)) refl
 
-equal_here : (alias : Bool) (below : ℕ) (tokens : List Token) (s : Span) (v : List Token) (x : Found)
+equal_here : (alias : Bool) (below : ℕ) (tokens : List Token) (s : Span) (v : List Token)
+    (x : Found)
     → IsOperand rule.sum below tokens (record { span = s; kind = lexeme.Sym sign.Eq } ∷ v) x
     → IsComparing alias below cmp.Eq tokens v x
 unfolding behind behind_at keyword_of is_intro is_called
 equal_here true below tokens s v x o =
-    let c : IsRead (behind rule.cmp) 1 rule.cmp below (record { span = s; kind = lexeme.Sym sign.Eq } ∷ v) v (comparison cmp.Eq) s =
+    let c : IsRead (behind rule.cmp) 1 rule.cmp below
+    (record { span = s; kind = lexeme.Sym sign.Eq } ∷ v) v (comparison cmp.Eq) s =
     cmp_equal below s v in
     record {
       last = s;
       said = record {
         front = o.done.front ++ c.done.front;
         inside = read_rule language sound (look language sound (begun true below tokens _ x o)
-            (sees_next language sound (record { span = s; kind = lexeme.Sym sign.Eq } ∷ v))) c.done refl refl (omega arith);
+            (sees_next language sound (record { span = s; kind = lexeme.Sym sign.Eq } ∷ v))) c.done
+            refl refl (omega arith);
         some = more_of o.done.front c.done.front (read_takes o refl);
         stands = stands_on x.extent x.extent s o.done.front c.done.front o.whole
             (read_takes o refl) c.whole (read_takes c refl);
       };
     }
 equal_here false below tokens s v x o =
-    let c : IsRead (behind rule.cmp) 1 rule.cmp below (record { span = s; kind = lexeme.Sym sign.Eq } ∷ v) v (comparison cmp.Eq) s =
+    let c : IsRead (behind rule.cmp) 1 rule.cmp below
+    (record { span = s; kind = lexeme.Sym sign.Eq } ∷ v) v (comparison cmp.Eq) s =
     cmp_equal below s v in
     record {
       last = s;
       said = record {
         front = o.done.front ++ c.done.front;
         inside = read_rule language sound (look language sound (begun false below tokens _ x o)
-            (sees_next language sound (record { span = s; kind = lexeme.Sym sign.Eq } ∷ v))) c.done refl refl (omega arith);
+            (sees_next language sound (record { span = s; kind = lexeme.Sym sign.Eq } ∷ v))) c.done
+            refl refl (omega arith);
         some = more_of o.done.front c.done.front (read_takes o refl);
         stands = stands_on x.extent x.extent s o.done.front c.done.front o.whole
             (read_takes o refl) c.whole (read_takes c refl);
@@ -226,39 +245,45 @@ equal_here false below tokens s v x o =
     }
 
 cmp_null_equal : (below : ℕ) (s : Span) (v : List Token)
-    → IsRead (behind rule.cmp) 1 rule.cmp below (record { span = s; kind = lexeme.Sym sign.NullEq } ∷ v) v (comparison cmp.NullEq) s
+    → IsRead (behind rule.cmp) 1 rule.cmp below
+    (record { span = s; kind = lexeme.Sym sign.NullEq } ∷ v) v (comparison cmp.NullEq) s
 unfolding behind behind_at keyword_of is_intro is_called
 cmp_null_equal below s v =
     is_read (widen language sound (take_token language sound
     (choose language sound (sees_next language sound _)) refl) (omega arith)) refl
 
-null_equal_here : (alias : Bool) (below : ℕ) (tokens : List Token) (s : Span) (v : List Token) (x : Found)
+null_equal_here : (alias : Bool) (below : ℕ) (tokens : List Token) (s : Span) (v : List Token)
+    (x : Found)
     → IsOperand rule.sum below tokens (record { span = s; kind = lexeme.Sym sign.NullEq } ∷ v) x
     → IsComparing alias below cmp.NullEq tokens v x
 unfolding behind behind_at keyword_of is_intro is_called
 null_equal_here true below tokens s v x o =
-    let c : IsRead (behind rule.cmp) 1 rule.cmp below (record { span = s; kind = lexeme.Sym sign.NullEq } ∷ v) v (comparison cmp.NullEq) s =
+    let c : IsRead (behind rule.cmp) 1 rule.cmp below
+    (record { span = s; kind = lexeme.Sym sign.NullEq } ∷ v) v (comparison cmp.NullEq) s =
     cmp_null_equal below s v in
     record {
       last = s;
       said = record {
         front = o.done.front ++ c.done.front;
         inside = read_rule language sound (look language sound (begun true below tokens _ x o)
-            (sees_next language sound (record { span = s; kind = lexeme.Sym sign.NullEq } ∷ v))) c.done refl refl (omega arith);
+            (sees_next language sound (record { span = s; kind = lexeme.Sym sign.NullEq } ∷ v)))
+            c.done refl refl (omega arith);
         some = more_of o.done.front c.done.front (read_takes o refl);
         stands = stands_on x.extent x.extent s o.done.front c.done.front o.whole
             (read_takes o refl) c.whole (read_takes c refl);
       };
     }
 null_equal_here false below tokens s v x o =
-    let c : IsRead (behind rule.cmp) 1 rule.cmp below (record { span = s; kind = lexeme.Sym sign.NullEq } ∷ v) v (comparison cmp.NullEq) s =
+    let c : IsRead (behind rule.cmp) 1 rule.cmp below
+    (record { span = s; kind = lexeme.Sym sign.NullEq } ∷ v) v (comparison cmp.NullEq) s =
     cmp_null_equal below s v in
     record {
       last = s;
       said = record {
         front = o.done.front ++ c.done.front;
         inside = read_rule language sound (look language sound (begun false below tokens _ x o)
-            (sees_next language sound (record { span = s; kind = lexeme.Sym sign.NullEq } ∷ v))) c.done refl refl (omega arith);
+            (sees_next language sound (record { span = s; kind = lexeme.Sym sign.NullEq } ∷ v)))
+            c.done refl refl (omega arith);
         some = more_of o.done.front c.done.front (read_takes o refl);
         stands = stands_on x.extent x.extent s o.done.front c.done.front o.whole
             (read_takes o refl) c.whole (read_takes c refl);
@@ -266,39 +291,45 @@ null_equal_here false below tokens s v x o =
     }
 
 cmp_unequal : (below : ℕ) (s : Span) (v : List Token)
-    → IsRead (behind rule.cmp) 1 rule.cmp below (record { span = s; kind = lexeme.Sym sign.Ne } ∷ v) v (comparison cmp.Ne) s
+    → IsRead (behind rule.cmp) 1 rule.cmp below (record { span = s; kind = lexeme.Sym sign.Ne } ∷ v)
+    v (comparison cmp.Ne) s
 unfolding behind behind_at keyword_of is_intro is_called
 cmp_unequal below s v =
     is_read (widen language sound (take_token language sound
     (choose language sound (sees_next language sound _)) refl) (omega arith)) refl
 
-unequal_here : (alias : Bool) (below : ℕ) (tokens : List Token) (s : Span) (v : List Token) (x : Found)
+unequal_here : (alias : Bool) (below : ℕ) (tokens : List Token) (s : Span) (v : List Token)
+    (x : Found)
     → IsOperand rule.sum below tokens (record { span = s; kind = lexeme.Sym sign.Ne } ∷ v) x
     → IsComparing alias below cmp.Ne tokens v x
 unfolding behind behind_at keyword_of is_intro is_called
 unequal_here true below tokens s v x o =
-    let c : IsRead (behind rule.cmp) 1 rule.cmp below (record { span = s; kind = lexeme.Sym sign.Ne } ∷ v) v (comparison cmp.Ne) s =
+    let c : IsRead (behind rule.cmp) 1 rule.cmp below
+    (record { span = s; kind = lexeme.Sym sign.Ne } ∷ v) v (comparison cmp.Ne) s =
     cmp_unequal below s v in
     record {
       last = s;
       said = record {
         front = o.done.front ++ c.done.front;
         inside = read_rule language sound (look language sound (begun true below tokens _ x o)
-            (sees_next language sound (record { span = s; kind = lexeme.Sym sign.Ne } ∷ v))) c.done refl refl (omega arith);
+            (sees_next language sound (record { span = s; kind = lexeme.Sym sign.Ne } ∷ v))) c.done
+            refl refl (omega arith);
         some = more_of o.done.front c.done.front (read_takes o refl);
         stands = stands_on x.extent x.extent s o.done.front c.done.front o.whole
             (read_takes o refl) c.whole (read_takes c refl);
       };
     }
 unequal_here false below tokens s v x o =
-    let c : IsRead (behind rule.cmp) 1 rule.cmp below (record { span = s; kind = lexeme.Sym sign.Ne } ∷ v) v (comparison cmp.Ne) s =
+    let c : IsRead (behind rule.cmp) 1 rule.cmp below
+    (record { span = s; kind = lexeme.Sym sign.Ne } ∷ v) v (comparison cmp.Ne) s =
     cmp_unequal below s v in
     record {
       last = s;
       said = record {
         front = o.done.front ++ c.done.front;
         inside = read_rule language sound (look language sound (begun false below tokens _ x o)
-            (sees_next language sound (record { span = s; kind = lexeme.Sym sign.Ne } ∷ v))) c.done refl refl (omega arith);
+            (sees_next language sound (record { span = s; kind = lexeme.Sym sign.Ne } ∷ v))) c.done
+            refl refl (omega arith);
         some = more_of o.done.front c.done.front (read_takes o refl);
         stands = stands_on x.extent x.extent s o.done.front c.done.front o.whole
             (read_takes o refl) c.whole (read_takes c refl);
@@ -306,39 +337,45 @@ unequal_here false below tokens s v x o =
     }
 
 cmp_unequal_bang : (below : ℕ) (s : Span) (v : List Token)
-    → IsRead (behind rule.cmp) 1 rule.cmp below (record { span = s; kind = lexeme.Sym sign.NeBang } ∷ v) v (comparison cmp.Ne) s
+    → IsRead (behind rule.cmp) 1 rule.cmp below
+    (record { span = s; kind = lexeme.Sym sign.NeBang } ∷ v) v (comparison cmp.Ne) s
 unfolding behind behind_at keyword_of is_intro is_called
 cmp_unequal_bang below s v =
     is_read (widen language sound (take_token language sound
     (choose language sound (sees_next language sound _)) refl) (omega arith)) refl
 
-unequal_bang_here : (alias : Bool) (below : ℕ) (tokens : List Token) (s : Span) (v : List Token) (x : Found)
+unequal_bang_here : (alias : Bool) (below : ℕ) (tokens : List Token) (s : Span) (v : List Token)
+    (x : Found)
     → IsOperand rule.sum below tokens (record { span = s; kind = lexeme.Sym sign.NeBang } ∷ v) x
     → IsComparing alias below cmp.Ne tokens v x
 unfolding behind behind_at keyword_of is_intro is_called
 unequal_bang_here true below tokens s v x o =
-    let c : IsRead (behind rule.cmp) 1 rule.cmp below (record { span = s; kind = lexeme.Sym sign.NeBang } ∷ v) v (comparison cmp.Ne) s =
+    let c : IsRead (behind rule.cmp) 1 rule.cmp below
+    (record { span = s; kind = lexeme.Sym sign.NeBang } ∷ v) v (comparison cmp.Ne) s =
     cmp_unequal_bang below s v in
     record {
       last = s;
       said = record {
         front = o.done.front ++ c.done.front;
         inside = read_rule language sound (look language sound (begun true below tokens _ x o)
-            (sees_next language sound (record { span = s; kind = lexeme.Sym sign.NeBang } ∷ v))) c.done refl refl (omega arith);
+            (sees_next language sound (record { span = s; kind = lexeme.Sym sign.NeBang } ∷ v)))
+            c.done refl refl (omega arith);
         some = more_of o.done.front c.done.front (read_takes o refl);
         stands = stands_on x.extent x.extent s o.done.front c.done.front o.whole
             (read_takes o refl) c.whole (read_takes c refl);
       };
     }
 unequal_bang_here false below tokens s v x o =
-    let c : IsRead (behind rule.cmp) 1 rule.cmp below (record { span = s; kind = lexeme.Sym sign.NeBang } ∷ v) v (comparison cmp.Ne) s =
+    let c : IsRead (behind rule.cmp) 1 rule.cmp below
+    (record { span = s; kind = lexeme.Sym sign.NeBang } ∷ v) v (comparison cmp.Ne) s =
     cmp_unequal_bang below s v in
     record {
       last = s;
       said = record {
         front = o.done.front ++ c.done.front;
         inside = read_rule language sound (look language sound (begun false below tokens _ x o)
-            (sees_next language sound (record { span = s; kind = lexeme.Sym sign.NeBang } ∷ v))) c.done refl refl (omega arith);
+            (sees_next language sound (record { span = s; kind = lexeme.Sym sign.NeBang } ∷ v)))
+            c.done refl refl (omega arith);
         some = more_of o.done.front c.done.front (read_takes o refl);
         stands = stands_on x.extent x.extent s o.done.front c.done.front o.whole
             (read_takes o refl) c.whole (read_takes c refl);
@@ -346,7 +383,8 @@ unequal_bang_here false below tokens s v x o =
     }
 
 cmp_less : (below : ℕ) (s : Span) (v : List Token)
-    → IsRead (behind rule.cmp) 1 rule.cmp below (record { span = s; kind = lexeme.Sym sign.Lt } ∷ v) v (comparison cmp.Lt) s
+    → IsRead (behind rule.cmp) 1 rule.cmp below (record { span = s; kind = lexeme.Sym sign.Lt } ∷ v)
+    v (comparison cmp.Lt) s
 unfolding behind behind_at keyword_of is_intro is_called
 cmp_less below s v =
     is_read (widen language sound (take_token language sound
@@ -357,28 +395,32 @@ less_here : (alias : Bool) (below : ℕ) (tokens : List Token) (s : Span) (v : L
     → IsComparing alias below cmp.Lt tokens v x
 unfolding behind behind_at keyword_of is_intro is_called
 less_here true below tokens s v x o =
-    let c : IsRead (behind rule.cmp) 1 rule.cmp below (record { span = s; kind = lexeme.Sym sign.Lt } ∷ v) v (comparison cmp.Lt) s =
+    let c : IsRead (behind rule.cmp) 1 rule.cmp below
+    (record { span = s; kind = lexeme.Sym sign.Lt } ∷ v) v (comparison cmp.Lt) s =
     cmp_less below s v in
     record {
       last = s;
       said = record {
         front = o.done.front ++ c.done.front;
         inside = read_rule language sound (look language sound (begun true below tokens _ x o)
-            (sees_next language sound (record { span = s; kind = lexeme.Sym sign.Lt } ∷ v))) c.done refl refl (omega arith);
+            (sees_next language sound (record { span = s; kind = lexeme.Sym sign.Lt } ∷ v))) c.done
+            refl refl (omega arith);
         some = more_of o.done.front c.done.front (read_takes o refl);
         stands = stands_on x.extent x.extent s o.done.front c.done.front o.whole
             (read_takes o refl) c.whole (read_takes c refl);
       };
     }
 less_here false below tokens s v x o =
-    let c : IsRead (behind rule.cmp) 1 rule.cmp below (record { span = s; kind = lexeme.Sym sign.Lt } ∷ v) v (comparison cmp.Lt) s =
+    let c : IsRead (behind rule.cmp) 1 rule.cmp below
+    (record { span = s; kind = lexeme.Sym sign.Lt } ∷ v) v (comparison cmp.Lt) s =
     cmp_less below s v in
     record {
       last = s;
       said = record {
         front = o.done.front ++ c.done.front;
         inside = read_rule language sound (look language sound (begun false below tokens _ x o)
-            (sees_next language sound (record { span = s; kind = lexeme.Sym sign.Lt } ∷ v))) c.done refl refl (omega arith);
+            (sees_next language sound (record { span = s; kind = lexeme.Sym sign.Lt } ∷ v))) c.done
+            refl refl (omega arith);
         some = more_of o.done.front c.done.front (read_takes o refl);
         stands = stands_on x.extent x.extent s o.done.front c.done.front o.whole
             (read_takes o refl) c.whole (read_takes c refl);
@@ -386,39 +428,45 @@ less_here false below tokens s v x o =
     }
 
 cmp_less_equal : (below : ℕ) (s : Span) (v : List Token)
-    → IsRead (behind rule.cmp) 1 rule.cmp below (record { span = s; kind = lexeme.Sym sign.Le } ∷ v) v (comparison cmp.Le) s
+    → IsRead (behind rule.cmp) 1 rule.cmp below (record { span = s; kind = lexeme.Sym sign.Le } ∷ v)
+    v (comparison cmp.Le) s
 unfolding behind behind_at keyword_of is_intro is_called
 cmp_less_equal below s v =
     is_read (widen language sound (take_token language sound
     (choose language sound (sees_next language sound _)) refl) (omega arith)) refl
 
-less_equal_here : (alias : Bool) (below : ℕ) (tokens : List Token) (s : Span) (v : List Token) (x : Found)
+less_equal_here : (alias : Bool) (below : ℕ) (tokens : List Token) (s : Span) (v : List Token)
+    (x : Found)
     → IsOperand rule.sum below tokens (record { span = s; kind = lexeme.Sym sign.Le } ∷ v) x
     → IsComparing alias below cmp.Le tokens v x
 unfolding behind behind_at keyword_of is_intro is_called
 less_equal_here true below tokens s v x o =
-    let c : IsRead (behind rule.cmp) 1 rule.cmp below (record { span = s; kind = lexeme.Sym sign.Le } ∷ v) v (comparison cmp.Le) s =
+    let c : IsRead (behind rule.cmp) 1 rule.cmp below
+    (record { span = s; kind = lexeme.Sym sign.Le } ∷ v) v (comparison cmp.Le) s =
     cmp_less_equal below s v in
     record {
       last = s;
       said = record {
         front = o.done.front ++ c.done.front;
         inside = read_rule language sound (look language sound (begun true below tokens _ x o)
-            (sees_next language sound (record { span = s; kind = lexeme.Sym sign.Le } ∷ v))) c.done refl refl (omega arith);
+            (sees_next language sound (record { span = s; kind = lexeme.Sym sign.Le } ∷ v))) c.done
+            refl refl (omega arith);
         some = more_of o.done.front c.done.front (read_takes o refl);
         stands = stands_on x.extent x.extent s o.done.front c.done.front o.whole
             (read_takes o refl) c.whole (read_takes c refl);
       };
     }
 less_equal_here false below tokens s v x o =
-    let c : IsRead (behind rule.cmp) 1 rule.cmp below (record { span = s; kind = lexeme.Sym sign.Le } ∷ v) v (comparison cmp.Le) s =
+    let c : IsRead (behind rule.cmp) 1 rule.cmp below
+    (record { span = s; kind = lexeme.Sym sign.Le } ∷ v) v (comparison cmp.Le) s =
     cmp_less_equal below s v in
     record {
       last = s;
       said = record {
         front = o.done.front ++ c.done.front;
         inside = read_rule language sound (look language sound (begun false below tokens _ x o)
-            (sees_next language sound (record { span = s; kind = lexeme.Sym sign.Le } ∷ v))) c.done refl refl (omega arith);
+            (sees_next language sound (record { span = s; kind = lexeme.Sym sign.Le } ∷ v))) c.done
+            refl refl (omega arith);
         some = more_of o.done.front c.done.front (read_takes o refl);
         stands = stands_on x.extent x.extent s o.done.front c.done.front o.whole
             (read_takes o refl) c.whole (read_takes c refl);
@@ -426,39 +474,45 @@ less_equal_here false below tokens s v x o =
     }
 
 cmp_greater : (below : ℕ) (s : Span) (v : List Token)
-    → IsRead (behind rule.cmp) 1 rule.cmp below (record { span = s; kind = lexeme.Sym sign.Gt } ∷ v) v (comparison cmp.Gt) s
+    → IsRead (behind rule.cmp) 1 rule.cmp below (record { span = s; kind = lexeme.Sym sign.Gt } ∷ v)
+    v (comparison cmp.Gt) s
 unfolding behind behind_at keyword_of is_intro is_called
 cmp_greater below s v =
     is_read (widen language sound (take_token language sound
     (choose language sound (sees_next language sound _)) refl) (omega arith)) refl
 
-greater_here : (alias : Bool) (below : ℕ) (tokens : List Token) (s : Span) (v : List Token) (x : Found)
+greater_here : (alias : Bool) (below : ℕ) (tokens : List Token) (s : Span) (v : List Token)
+    (x : Found)
     → IsOperand rule.sum below tokens (record { span = s; kind = lexeme.Sym sign.Gt } ∷ v) x
     → IsComparing alias below cmp.Gt tokens v x
 unfolding behind behind_at keyword_of is_intro is_called
 greater_here true below tokens s v x o =
-    let c : IsRead (behind rule.cmp) 1 rule.cmp below (record { span = s; kind = lexeme.Sym sign.Gt } ∷ v) v (comparison cmp.Gt) s =
+    let c : IsRead (behind rule.cmp) 1 rule.cmp below
+    (record { span = s; kind = lexeme.Sym sign.Gt } ∷ v) v (comparison cmp.Gt) s =
     cmp_greater below s v in
     record {
       last = s;
       said = record {
         front = o.done.front ++ c.done.front;
         inside = read_rule language sound (look language sound (begun true below tokens _ x o)
-            (sees_next language sound (record { span = s; kind = lexeme.Sym sign.Gt } ∷ v))) c.done refl refl (omega arith);
+            (sees_next language sound (record { span = s; kind = lexeme.Sym sign.Gt } ∷ v))) c.done
+            refl refl (omega arith);
         some = more_of o.done.front c.done.front (read_takes o refl);
         stands = stands_on x.extent x.extent s o.done.front c.done.front o.whole
             (read_takes o refl) c.whole (read_takes c refl);
       };
     }
 greater_here false below tokens s v x o =
-    let c : IsRead (behind rule.cmp) 1 rule.cmp below (record { span = s; kind = lexeme.Sym sign.Gt } ∷ v) v (comparison cmp.Gt) s =
+    let c : IsRead (behind rule.cmp) 1 rule.cmp below
+    (record { span = s; kind = lexeme.Sym sign.Gt } ∷ v) v (comparison cmp.Gt) s =
     cmp_greater below s v in
     record {
       last = s;
       said = record {
         front = o.done.front ++ c.done.front;
         inside = read_rule language sound (look language sound (begun false below tokens _ x o)
-            (sees_next language sound (record { span = s; kind = lexeme.Sym sign.Gt } ∷ v))) c.done refl refl (omega arith);
+            (sees_next language sound (record { span = s; kind = lexeme.Sym sign.Gt } ∷ v))) c.done
+            refl refl (omega arith);
         some = more_of o.done.front c.done.front (read_takes o refl);
         stands = stands_on x.extent x.extent s o.done.front c.done.front o.whole
             (read_takes o refl) c.whole (read_takes c refl);
@@ -466,39 +520,45 @@ greater_here false below tokens s v x o =
     }
 
 cmp_greater_equal : (below : ℕ) (s : Span) (v : List Token)
-    → IsRead (behind rule.cmp) 1 rule.cmp below (record { span = s; kind = lexeme.Sym sign.Ge } ∷ v) v (comparison cmp.Ge) s
+    → IsRead (behind rule.cmp) 1 rule.cmp below (record { span = s; kind = lexeme.Sym sign.Ge } ∷ v)
+    v (comparison cmp.Ge) s
 unfolding behind behind_at keyword_of is_intro is_called
 cmp_greater_equal below s v =
     is_read (widen language sound (take_token language sound
     (choose language sound (sees_next language sound _)) refl) (omega arith)) refl
 
-greater_equal_here : (alias : Bool) (below : ℕ) (tokens : List Token) (s : Span) (v : List Token) (x : Found)
+greater_equal_here : (alias : Bool) (below : ℕ) (tokens : List Token) (s : Span) (v : List Token)
+    (x : Found)
     → IsOperand rule.sum below tokens (record { span = s; kind = lexeme.Sym sign.Ge } ∷ v) x
     → IsComparing alias below cmp.Ge tokens v x
 unfolding behind behind_at keyword_of is_intro is_called
 greater_equal_here true below tokens s v x o =
-    let c : IsRead (behind rule.cmp) 1 rule.cmp below (record { span = s; kind = lexeme.Sym sign.Ge } ∷ v) v (comparison cmp.Ge) s =
+    let c : IsRead (behind rule.cmp) 1 rule.cmp below
+    (record { span = s; kind = lexeme.Sym sign.Ge } ∷ v) v (comparison cmp.Ge) s =
     cmp_greater_equal below s v in
     record {
       last = s;
       said = record {
         front = o.done.front ++ c.done.front;
         inside = read_rule language sound (look language sound (begun true below tokens _ x o)
-            (sees_next language sound (record { span = s; kind = lexeme.Sym sign.Ge } ∷ v))) c.done refl refl (omega arith);
+            (sees_next language sound (record { span = s; kind = lexeme.Sym sign.Ge } ∷ v))) c.done
+            refl refl (omega arith);
         some = more_of o.done.front c.done.front (read_takes o refl);
         stands = stands_on x.extent x.extent s o.done.front c.done.front o.whole
             (read_takes o refl) c.whole (read_takes c refl);
       };
     }
 greater_equal_here false below tokens s v x o =
-    let c : IsRead (behind rule.cmp) 1 rule.cmp below (record { span = s; kind = lexeme.Sym sign.Ge } ∷ v) v (comparison cmp.Ge) s =
+    let c : IsRead (behind rule.cmp) 1 rule.cmp below
+    (record { span = s; kind = lexeme.Sym sign.Ge } ∷ v) v (comparison cmp.Ge) s =
     cmp_greater_equal below s v in
     record {
       last = s;
       said = record {
         front = o.done.front ++ c.done.front;
         inside = read_rule language sound (look language sound (begun false below tokens _ x o)
-            (sees_next language sound (record { span = s; kind = lexeme.Sym sign.Ge } ∷ v))) c.done refl refl (omega arith);
+            (sees_next language sound (record { span = s; kind = lexeme.Sym sign.Ge } ∷ v))) c.done
+            refl refl (omega arith);
         some = more_of o.done.front c.done.front (read_takes o refl);
         stands = stands_on x.extent x.extent s o.done.front c.done.front o.whole
             (read_takes o refl) c.whole (read_takes c refl);
@@ -551,7 +611,8 @@ not_none below v h =
     (sees_missing (word (codes "not") ∷ []) v (both_missing _ _ h refl)))
 
 not_some_here : (below : ℕ) (s : Span) (v : List Token)
-    → Done language (behind rule.not_option) 1 (at below rule.not_option) (record { span = s; kind = lexeme.Word (codes "not") } ∷ v) v (flag true)
+    → Done language (behind rule.not_option) 1 (at below rule.not_option)
+    (record { span = s; kind = lexeme.Word (codes "not") } ∷ v) v (flag true)
 unfolding behind behind_at keyword_of is_intro is_called
 not_some_here below s v =
     finish language sound (widen language sound (take_token language sound
@@ -560,13 +621,15 @@ not_some_here below s v =
 pub not_some : (below : ℕ) (tokens v : List Token) → IsNext (lexeme.Word (codes "not")) tokens v
     → Done language (behind rule.not_option) 1 (at below rule.not_option) tokens v (flag true)
 not_some below tokens v n =
-    subst (λ (z : List Token). Done language (behind rule.not_option) 1 (at below rule.not_option) z v
+    subst (λ (z : List Token). Done language (behind rule.not_option) 1
+    (at below rule.not_option) z v
     (flag true)) (sym n.same) (not_some_here below n.span v)
 
 -- IS NULL
 
 is_here : (alias : Bool) (below : ℕ) (tokens : List Token) (s : Span) (v : List Token) (x : Found)
-    → IsOperand rule.sum below tokens (record { span = s; kind = lexeme.Word (codes "is") } ∷ v) x → IsTesting alias below tokens v x
+    → IsOperand rule.sum below tokens (record { span = s; kind = lexeme.Word (codes "is") } ∷ v) x
+    → IsTesting alias below tokens v x
 unfolding behind behind_at keyword_of is_intro is_called
 is_here true below tokens s v x o = record {
   last = s;
@@ -575,9 +638,12 @@ is_here true below tokens s v x o = record {
     front = o.done.front ++ (record { span = s; kind = lexeme.Word (codes "is") } ∷ []);
     inside = widen language sound (take_token language sound
         (look language sound (begun true below tokens _ x o)
-        (sees_next language sound (record { span = s; kind = lexeme.Word (codes "is") } ∷ v))) refl) (omega arith);
-    some = more_of o.done.front (record { span = s; kind = lexeme.Word (codes "is") } ∷ []) (read_takes o refl);
-    stands = stands_on x.extent x.extent s o.done.front (record { span = s; kind = lexeme.Word (codes "is") } ∷ []) o.whole
+        (sees_next language sound (record { span = s; kind = lexeme.Word (codes "is") } ∷ v))) refl)
+        (omega arith);
+    some = more_of o.done.front (record { span = s; kind = lexeme.Word (codes "is") } ∷ [])
+        (read_takes o refl);
+    stands = stands_on x.extent x.extent s o.done.front
+        (record { span = s; kind = lexeme.Word (codes "is") } ∷ []) o.whole
         (read_takes o refl) refl (omega arith);
   };
 }
@@ -588,9 +654,12 @@ is_here false below tokens s v x o = record {
     front = o.done.front ++ (record { span = s; kind = lexeme.Word (codes "is") } ∷ []);
     inside = widen language sound (take_token language sound
         (look language sound (begun false below tokens _ x o)
-        (sees_next language sound (record { span = s; kind = lexeme.Word (codes "is") } ∷ v))) refl) (omega arith);
-    some = more_of o.done.front (record { span = s; kind = lexeme.Word (codes "is") } ∷ []) (read_takes o refl);
-    stands = stands_on x.extent x.extent s o.done.front (record { span = s; kind = lexeme.Word (codes "is") } ∷ []) o.whole
+        (sees_next language sound (record { span = s; kind = lexeme.Word (codes "is") } ∷ v))) refl)
+        (omega arith);
+    some = more_of o.done.front (record { span = s; kind = lexeme.Word (codes "is") } ∷ [])
+        (read_takes o refl);
+    stands = stands_on x.extent x.extent s o.done.front
+        (record { span = s; kind = lexeme.Word (codes "is") } ∷ []) o.whole
         (read_takes o refl) refl (omega arith);
   };
 }
@@ -604,7 +673,8 @@ testing alias below tokens v u x o n =
 
 tested_pass : (alias : Bool) (below : ℕ)
     → IsTrue (all_pass language (behind_at alias rule.pred)
-    (place_of below rule.tested_null (with_room (suc below) [] (one (word (codes "null")) ∷ [])) ∷ []) (behind rule.not_option))
+    (place_of below rule.tested_null (with_room (suc below) [] (one (word (codes "null")) ∷ []))
+    ∷ []) (behind rule.not_option))
 unfolding behind behind_at keyword_of is_intro is_called
 tested_pass true below = refl
 tested_pass false below = refl
@@ -618,7 +688,8 @@ pub tested_read : (alias : Bool) (below : ℕ) (tokens v w u : List Token) (x z 
 tested_read alias below tokens v w u x z n end p d next at_end h =
     said_operand alias
     (said_done (said_option (record { span = next.span; kind = lexeme.Word (codes "null") }) p.said
-    (subst (λ (y : List Token). Done language (behind rule.not_option) 1 (at below rule.not_option) v y
+    (subst (λ (y : List Token). Done language (behind rule.not_option) 1
+    (at below rule.not_option) v y
     (flag n)) next.same d) (tested_pass alias below) refl))
     (h ∙ ap (λ (e : Span). whole (from_to x.extent e) (IsNull x.expr n))
     (at_end ∙ ap span_at next.same))
@@ -630,49 +701,68 @@ pub tested_missed : (alias : Bool) (below : ℕ) (tokens v w : List Token) (x : 
     → IsFault (behind_at alias rule.pred) rule.pred below tokens (NoReading left)
 unfolding behind behind_at keyword_of is_intro is_called
 tested_missed true below tokens v w x n left p d h e =
-    subst (λ (m : ℕ). IsFault (behind_at true rule.pred) rule.pred below tokens (NoReading m)) (sym e)
-    (is_missed (read_rule language sound p.said.inside d refl (tested_pass true below) (omega arith))
+    subst (λ (m : ℕ). IsFault (behind_at true rule.pred) rule.pred below tokens (NoReading m))
+    (sym e)
+    (is_missed (read_rule language sound p.said.inside d refl (tested_pass true below)
+    (omega arith))
     (sees_missing (word (codes "null") ∷ []) w (both_missing _ _ h refl)) refl (omega arith))
 tested_missed false below tokens v w x n left p d h e =
-    subst (λ (m : ℕ). IsFault (behind_at false rule.pred) rule.pred below tokens (NoReading m)) (sym e)
-    (is_missed (read_rule language sound p.said.inside d refl (tested_pass false below) (omega arith))
+    subst (λ (m : ℕ). IsFault (behind_at false rule.pred) rule.pred below tokens (NoReading m))
+    (sym e)
+    (is_missed (read_rule language sound p.said.inside d refl (tested_pass false below)
+    (omega arith))
     (sees_missing (word (codes "null") ∷ []) w (both_missing _ _ h refl)) refl (omega arith))
 
 -- LIKE, IN and BETWEEN
 
 like_here : (alias : Bool) (below : ℕ) (tokens : List Token) (s : Span) (v : List Token) (x : Found)
-    → IsOperand rule.sum below tokens (record { span = s; kind = lexeme.Word (codes "like") } ∷ v) x → IsMatching alias below false tokens v x
+    → IsOperand rule.sum below tokens (record { span = s; kind = lexeme.Word (codes "like") } ∷ v) x
+    → IsMatching alias below false tokens v x
 unfolding behind behind_at keyword_of is_intro is_called
 like_here true below tokens s v x o =
-    let d : Done language (behind rule.not_option) 1 (at below rule.not_option) (record { span = s; kind = lexeme.Word (codes "like") } ∷ v) (record { span = s; kind = lexeme.Word (codes "like") } ∷ v)
-    (flag false) = not_none below (record { span = s; kind = lexeme.Word (codes "like") } ∷ v) refl in
+    let d : Done language (behind rule.not_option) 1 (at below rule.not_option)
+    (record { span = s; kind = lexeme.Word (codes "like") } ∷ v)
+    (record { span = s; kind = lexeme.Word (codes "like") } ∷ v)
+    (flag false) = not_none below (record { span = s; kind = lexeme.Word (codes "like") } ∷ v) refl
+    in
     record {
       last = s;
       token = record { span = s; kind = lexeme.Word (codes "like") };
       said = record {
-        front = (o.done.front ++ d.front) ++ (record { span = s; kind = lexeme.Word (codes "like") } ∷ []);
+        front = (o.done.front ++ d.front) ++
+            (record { span = s; kind = lexeme.Word (codes "like") } ∷ []);
         inside = widen language sound (take_token language sound
             (read_rule language sound (look language sound (begun true below tokens _ x o)
-            (sees_next language sound (record { span = s; kind = lexeme.Word (codes "like") } ∷ v))) d refl refl (omega arith)) refl) (omega arith);
-        some = more_of (o.done.front ++ d.front) (record { span = s; kind = lexeme.Word (codes "like") } ∷ [])
+            (sees_next language sound (record { span = s; kind = lexeme.Word (codes "like") } ∷ v)))
+            d refl refl (omega arith)) refl) (omega arith);
+        some = more_of (o.done.front ++ d.front)
+            (record { span = s; kind = lexeme.Word (codes "like") } ∷ [])
             (more_of o.done.front d.front (read_takes o refl));
-        stands = ends_token x.extent x.extent o.done.front d.front (record { span = s; kind = lexeme.Word (codes "like") }) o.whole (read_takes o refl);
+        stands = ends_token x.extent x.extent o.done.front d.front
+            (record { span = s; kind = lexeme.Word (codes "like") }) o.whole (read_takes o refl);
       };
     }
 like_here false below tokens s v x o =
-    let d : Done language (behind rule.not_option) 1 (at below rule.not_option) (record { span = s; kind = lexeme.Word (codes "like") } ∷ v) (record { span = s; kind = lexeme.Word (codes "like") } ∷ v)
-    (flag false) = not_none below (record { span = s; kind = lexeme.Word (codes "like") } ∷ v) refl in
+    let d : Done language (behind rule.not_option) 1 (at below rule.not_option)
+    (record { span = s; kind = lexeme.Word (codes "like") } ∷ v)
+    (record { span = s; kind = lexeme.Word (codes "like") } ∷ v)
+    (flag false) = not_none below (record { span = s; kind = lexeme.Word (codes "like") } ∷ v) refl
+    in
     record {
       last = s;
       token = record { span = s; kind = lexeme.Word (codes "like") };
       said = record {
-        front = (o.done.front ++ d.front) ++ (record { span = s; kind = lexeme.Word (codes "like") } ∷ []);
+        front = (o.done.front ++ d.front) ++
+            (record { span = s; kind = lexeme.Word (codes "like") } ∷ []);
         inside = widen language sound (take_token language sound
             (read_rule language sound (look language sound (begun false below tokens _ x o)
-            (sees_next language sound (record { span = s; kind = lexeme.Word (codes "like") } ∷ v))) d refl refl (omega arith)) refl) (omega arith);
-        some = more_of (o.done.front ++ d.front) (record { span = s; kind = lexeme.Word (codes "like") } ∷ [])
+            (sees_next language sound (record { span = s; kind = lexeme.Word (codes "like") } ∷ v)))
+            d refl refl (omega arith)) refl) (omega arith);
+        some = more_of (o.done.front ++ d.front)
+            (record { span = s; kind = lexeme.Word (codes "like") } ∷ [])
             (more_of o.done.front d.front (read_takes o refl));
-        stands = ends_token x.extent x.extent o.done.front d.front (record { span = s; kind = lexeme.Word (codes "like") }) o.whole (read_takes o refl);
+        stands = ends_token x.extent x.extent o.done.front d.front
+            (record { span = s; kind = lexeme.Word (codes "like") }) o.whole (read_takes o refl);
       };
     }
 
@@ -683,41 +773,67 @@ matching alias below tokens v u x o n =
     like_here alias below tokens n.span u x
     (subst (λ (z : List Token). IsOperand rule.sum below tokens z x) n.same o)
 
-not_like_here : (alias : Bool) (below : ℕ) (tokens : List Token) (r s : Span) (v : List Token) (x : Found)
-    → IsOperand rule.sum below tokens (record { span = r; kind = lexeme.Word (codes "not") } ∷ (record { span = s; kind = lexeme.Word (codes "like") } ∷ v)) x → IsMatching alias below true tokens v x
+not_like_here : (alias : Bool) (below : ℕ) (tokens : List Token) (r s : Span) (v : List Token)
+    (x : Found)
+    → IsOperand rule.sum below tokens
+    (record { span = r; kind = lexeme.Word (codes "not") } ∷
+    (record { span = s; kind = lexeme.Word (codes "like") } ∷ v)) x
+    → IsMatching alias below true tokens v x
 unfolding behind behind_at keyword_of is_intro is_called
 not_like_here true below tokens r s v x o =
-    let d : Done language (behind rule.not_option) 1 (at below rule.not_option) (record { span = r; kind = lexeme.Word (codes "not") } ∷ (record { span = s; kind = lexeme.Word (codes "like") } ∷ v)) (record { span = s; kind = lexeme.Word (codes "like") } ∷ v)
-    (flag true) = not_some_here below r (record { span = s; kind = lexeme.Word (codes "like") } ∷ v) in
+    let d : Done language (behind rule.not_option) 1 (at below rule.not_option)
+    (record { span = r; kind = lexeme.Word (codes "not") } ∷
+    (record { span = s; kind = lexeme.Word (codes "like") } ∷ v))
+    (record { span = s; kind = lexeme.Word (codes "like") } ∷ v)
+    (flag true) = not_some_here below r (record { span = s; kind = lexeme.Word (codes "like") } ∷ v)
+    in
     record {
       last = s;
       token = record { span = s; kind = lexeme.Word (codes "like") };
       said = record {
-        front = (o.done.front ++ d.front) ++ (record { span = s; kind = lexeme.Word (codes "like") } ∷ []);
+        front = (o.done.front ++ d.front) ++
+            (record { span = s; kind = lexeme.Word (codes "like") } ∷ []);
         inside = widen language sound (take_token language sound (look language sound
             (read_rule language sound (look language sound (begun true below tokens _ x o)
-            (sees_next language sound (record { span = r; kind = lexeme.Word (codes "not") } ∷ (record { span = s; kind = lexeme.Word (codes "like") } ∷ v)))) d refl refl (omega arith))
-            (sees_next language sound (record { span = s; kind = lexeme.Word (codes "like") } ∷ v))) refl) (omega arith);
-        some = more_of (o.done.front ++ d.front) (record { span = s; kind = lexeme.Word (codes "like") } ∷ [])
+            (sees_next language sound
+            (record { span = r; kind = lexeme.Word (codes "not") } ∷
+            (record { span = s; kind = lexeme.Word (codes "like") } ∷ v)))) d refl refl
+            (omega arith))
+            (sees_next language sound (record { span = s; kind = lexeme.Word (codes "like") } ∷ v)))
+            refl) (omega arith);
+        some = more_of (o.done.front ++ d.front)
+            (record { span = s; kind = lexeme.Word (codes "like") } ∷ [])
             (more_of o.done.front d.front (read_takes o refl));
-        stands = ends_token x.extent x.extent o.done.front d.front (record { span = s; kind = lexeme.Word (codes "like") }) o.whole (read_takes o refl);
+        stands = ends_token x.extent x.extent o.done.front d.front
+            (record { span = s; kind = lexeme.Word (codes "like") }) o.whole (read_takes o refl);
       };
     }
 not_like_here false below tokens r s v x o =
-    let d : Done language (behind rule.not_option) 1 (at below rule.not_option) (record { span = r; kind = lexeme.Word (codes "not") } ∷ (record { span = s; kind = lexeme.Word (codes "like") } ∷ v)) (record { span = s; kind = lexeme.Word (codes "like") } ∷ v)
-    (flag true) = not_some_here below r (record { span = s; kind = lexeme.Word (codes "like") } ∷ v) in
+    let d : Done language (behind rule.not_option) 1 (at below rule.not_option)
+    (record { span = r; kind = lexeme.Word (codes "not") } ∷
+    (record { span = s; kind = lexeme.Word (codes "like") } ∷ v))
+    (record { span = s; kind = lexeme.Word (codes "like") } ∷ v)
+    (flag true) = not_some_here below r (record { span = s; kind = lexeme.Word (codes "like") } ∷ v)
+    in
     record {
       last = s;
       token = record { span = s; kind = lexeme.Word (codes "like") };
       said = record {
-        front = (o.done.front ++ d.front) ++ (record { span = s; kind = lexeme.Word (codes "like") } ∷ []);
+        front = (o.done.front ++ d.front) ++
+            (record { span = s; kind = lexeme.Word (codes "like") } ∷ []);
         inside = widen language sound (take_token language sound (look language sound
             (read_rule language sound (look language sound (begun false below tokens _ x o)
-            (sees_next language sound (record { span = r; kind = lexeme.Word (codes "not") } ∷ (record { span = s; kind = lexeme.Word (codes "like") } ∷ v)))) d refl refl (omega arith))
-            (sees_next language sound (record { span = s; kind = lexeme.Word (codes "like") } ∷ v))) refl) (omega arith);
-        some = more_of (o.done.front ++ d.front) (record { span = s; kind = lexeme.Word (codes "like") } ∷ [])
+            (sees_next language sound
+            (record { span = r; kind = lexeme.Word (codes "not") } ∷
+            (record { span = s; kind = lexeme.Word (codes "like") } ∷ v)))) d refl refl
+            (omega arith))
+            (sees_next language sound (record { span = s; kind = lexeme.Word (codes "like") } ∷ v)))
+            refl) (omega arith);
+        some = more_of (o.done.front ++ d.front)
+            (record { span = s; kind = lexeme.Word (codes "like") } ∷ [])
             (more_of o.done.front d.front (read_takes o refl));
-        stands = ends_token x.extent x.extent o.done.front d.front (record { span = s; kind = lexeme.Word (codes "like") }) o.whole (read_takes o refl);
+        stands = ends_token x.extent x.extent o.done.front d.front
+            (record { span = s; kind = lexeme.Word (codes "like") }) o.whole (read_takes o refl);
       };
     }
 
@@ -727,41 +843,55 @@ pub not_matching : (alias : Bool) (below : ℕ) (tokens v q u : List Token) (x :
 not_matching alias below tokens v q u x o n k =
     not_like_here alias below tokens n.span k.span u x
     (subst (λ (z : List Token). IsOperand rule.sum below tokens z x)
-    (n.same ∙ ap (λ (z : List Token). record { span = n.span; kind = lexeme.Word (codes "not") } ∷ z) k.same) o)
+    (n.same ∙ ap (λ (z : List Token). record { span = n.span; kind = lexeme.Word (codes "not") }
+    ∷ z) k.same) o)
 
 in_here : (alias : Bool) (below : ℕ) (tokens : List Token) (s : Span) (v : List Token) (x : Found)
-    → IsOperand rule.sum below tokens (record { span = s; kind = lexeme.Word (codes "in") } ∷ v) x → IsListing alias below false tokens v x
+    → IsOperand rule.sum below tokens (record { span = s; kind = lexeme.Word (codes "in") } ∷ v) x
+    → IsListing alias below false tokens v x
 unfolding behind behind_at keyword_of is_intro is_called
 in_here true below tokens s v x o =
-    let d : Done language (behind rule.not_option) 1 (at below rule.not_option) (record { span = s; kind = lexeme.Word (codes "in") } ∷ v) (record { span = s; kind = lexeme.Word (codes "in") } ∷ v)
+    let d : Done language (behind rule.not_option) 1 (at below rule.not_option)
+    (record { span = s; kind = lexeme.Word (codes "in") } ∷ v)
+    (record { span = s; kind = lexeme.Word (codes "in") } ∷ v)
     (flag false) = not_none below (record { span = s; kind = lexeme.Word (codes "in") } ∷ v) refl in
     record {
       last = s;
       token = record { span = s; kind = lexeme.Word (codes "in") };
       said = record {
-        front = (o.done.front ++ d.front) ++ (record { span = s; kind = lexeme.Word (codes "in") } ∷ []);
+        front = (o.done.front ++ d.front) ++
+            (record { span = s; kind = lexeme.Word (codes "in") } ∷ []);
         inside = widen language sound (take_token language sound
             (read_rule language sound (look language sound (begun true below tokens _ x o)
-            (sees_next language sound (record { span = s; kind = lexeme.Word (codes "in") } ∷ v))) d refl refl (omega arith)) refl) (omega arith);
-        some = more_of (o.done.front ++ d.front) (record { span = s; kind = lexeme.Word (codes "in") } ∷ [])
+            (sees_next language sound (record { span = s; kind = lexeme.Word (codes "in") } ∷ v)))
+            d refl refl (omega arith)) refl) (omega arith);
+        some = more_of (o.done.front ++ d.front)
+            (record { span = s; kind = lexeme.Word (codes "in") } ∷ [])
             (more_of o.done.front d.front (read_takes o refl));
-        stands = ends_token x.extent x.extent o.done.front d.front (record { span = s; kind = lexeme.Word (codes "in") }) o.whole (read_takes o refl);
+        stands = ends_token x.extent x.extent o.done.front d.front
+            (record { span = s; kind = lexeme.Word (codes "in") }) o.whole (read_takes o refl);
       };
     }
 in_here false below tokens s v x o =
-    let d : Done language (behind rule.not_option) 1 (at below rule.not_option) (record { span = s; kind = lexeme.Word (codes "in") } ∷ v) (record { span = s; kind = lexeme.Word (codes "in") } ∷ v)
+    let d : Done language (behind rule.not_option) 1 (at below rule.not_option)
+    (record { span = s; kind = lexeme.Word (codes "in") } ∷ v)
+    (record { span = s; kind = lexeme.Word (codes "in") } ∷ v)
     (flag false) = not_none below (record { span = s; kind = lexeme.Word (codes "in") } ∷ v) refl in
     record {
       last = s;
       token = record { span = s; kind = lexeme.Word (codes "in") };
       said = record {
-        front = (o.done.front ++ d.front) ++ (record { span = s; kind = lexeme.Word (codes "in") } ∷ []);
+        front = (o.done.front ++ d.front) ++
+            (record { span = s; kind = lexeme.Word (codes "in") } ∷ []);
         inside = widen language sound (take_token language sound
             (read_rule language sound (look language sound (begun false below tokens _ x o)
-            (sees_next language sound (record { span = s; kind = lexeme.Word (codes "in") } ∷ v))) d refl refl (omega arith)) refl) (omega arith);
-        some = more_of (o.done.front ++ d.front) (record { span = s; kind = lexeme.Word (codes "in") } ∷ [])
+            (sees_next language sound (record { span = s; kind = lexeme.Word (codes "in") } ∷ v)))
+            d refl refl (omega arith)) refl) (omega arith);
+        some = more_of (o.done.front ++ d.front)
+            (record { span = s; kind = lexeme.Word (codes "in") } ∷ [])
             (more_of o.done.front d.front (read_takes o refl));
-        stands = ends_token x.extent x.extent o.done.front d.front (record { span = s; kind = lexeme.Word (codes "in") }) o.whole (read_takes o refl);
+        stands = ends_token x.extent x.extent o.done.front d.front
+            (record { span = s; kind = lexeme.Word (codes "in") }) o.whole (read_takes o refl);
       };
     }
 
@@ -772,41 +902,65 @@ listing alias below tokens v u x o n =
     in_here alias below tokens n.span u x
     (subst (λ (z : List Token). IsOperand rule.sum below tokens z x) n.same o)
 
-not_in_here : (alias : Bool) (below : ℕ) (tokens : List Token) (r s : Span) (v : List Token) (x : Found)
-    → IsOperand rule.sum below tokens (record { span = r; kind = lexeme.Word (codes "not") } ∷ (record { span = s; kind = lexeme.Word (codes "in") } ∷ v)) x → IsListing alias below true tokens v x
+not_in_here : (alias : Bool) (below : ℕ) (tokens : List Token) (r s : Span) (v : List Token)
+    (x : Found)
+    → IsOperand rule.sum below tokens
+    (record { span = r; kind = lexeme.Word (codes "not") } ∷
+    (record { span = s; kind = lexeme.Word (codes "in") } ∷ v)) x
+    → IsListing alias below true tokens v x
 unfolding behind behind_at keyword_of is_intro is_called
 not_in_here true below tokens r s v x o =
-    let d : Done language (behind rule.not_option) 1 (at below rule.not_option) (record { span = r; kind = lexeme.Word (codes "not") } ∷ (record { span = s; kind = lexeme.Word (codes "in") } ∷ v)) (record { span = s; kind = lexeme.Word (codes "in") } ∷ v)
-    (flag true) = not_some_here below r (record { span = s; kind = lexeme.Word (codes "in") } ∷ v) in
+    let d : Done language (behind rule.not_option) 1 (at below rule.not_option)
+    (record { span = r; kind = lexeme.Word (codes "not") } ∷
+    (record { span = s; kind = lexeme.Word (codes "in") } ∷ v))
+    (record { span = s; kind = lexeme.Word (codes "in") } ∷ v)
+    (flag true) = not_some_here below r (record { span = s; kind = lexeme.Word (codes "in") } ∷ v)
+    in
     record {
       last = s;
       token = record { span = s; kind = lexeme.Word (codes "in") };
       said = record {
-        front = (o.done.front ++ d.front) ++ (record { span = s; kind = lexeme.Word (codes "in") } ∷ []);
+        front = (o.done.front ++ d.front) ++
+            (record { span = s; kind = lexeme.Word (codes "in") } ∷ []);
         inside = widen language sound (take_token language sound (look language sound
             (read_rule language sound (look language sound (begun true below tokens _ x o)
-            (sees_next language sound (record { span = r; kind = lexeme.Word (codes "not") } ∷ (record { span = s; kind = lexeme.Word (codes "in") } ∷ v)))) d refl refl (omega arith))
-            (sees_next language sound (record { span = s; kind = lexeme.Word (codes "in") } ∷ v))) refl) (omega arith);
-        some = more_of (o.done.front ++ d.front) (record { span = s; kind = lexeme.Word (codes "in") } ∷ [])
+            (sees_next language sound
+            (record { span = r; kind = lexeme.Word (codes "not") } ∷
+            (record { span = s; kind = lexeme.Word (codes "in") } ∷ v)))) d refl refl (omega arith))
+            (sees_next language sound (record { span = s; kind = lexeme.Word (codes "in") } ∷ v)))
+            refl) (omega arith);
+        some = more_of (o.done.front ++ d.front)
+            (record { span = s; kind = lexeme.Word (codes "in") } ∷ [])
             (more_of o.done.front d.front (read_takes o refl));
-        stands = ends_token x.extent x.extent o.done.front d.front (record { span = s; kind = lexeme.Word (codes "in") }) o.whole (read_takes o refl);
+        stands = ends_token x.extent x.extent o.done.front d.front
+            (record { span = s; kind = lexeme.Word (codes "in") }) o.whole (read_takes o refl);
       };
     }
 not_in_here false below tokens r s v x o =
-    let d : Done language (behind rule.not_option) 1 (at below rule.not_option) (record { span = r; kind = lexeme.Word (codes "not") } ∷ (record { span = s; kind = lexeme.Word (codes "in") } ∷ v)) (record { span = s; kind = lexeme.Word (codes "in") } ∷ v)
-    (flag true) = not_some_here below r (record { span = s; kind = lexeme.Word (codes "in") } ∷ v) in
+    let d : Done language (behind rule.not_option) 1 (at below rule.not_option)
+    (record { span = r; kind = lexeme.Word (codes "not") } ∷
+    (record { span = s; kind = lexeme.Word (codes "in") } ∷ v))
+    (record { span = s; kind = lexeme.Word (codes "in") } ∷ v)
+    (flag true) = not_some_here below r (record { span = s; kind = lexeme.Word (codes "in") } ∷ v)
+    in
     record {
       last = s;
       token = record { span = s; kind = lexeme.Word (codes "in") };
       said = record {
-        front = (o.done.front ++ d.front) ++ (record { span = s; kind = lexeme.Word (codes "in") } ∷ []);
+        front = (o.done.front ++ d.front) ++
+            (record { span = s; kind = lexeme.Word (codes "in") } ∷ []);
         inside = widen language sound (take_token language sound (look language sound
             (read_rule language sound (look language sound (begun false below tokens _ x o)
-            (sees_next language sound (record { span = r; kind = lexeme.Word (codes "not") } ∷ (record { span = s; kind = lexeme.Word (codes "in") } ∷ v)))) d refl refl (omega arith))
-            (sees_next language sound (record { span = s; kind = lexeme.Word (codes "in") } ∷ v))) refl) (omega arith);
-        some = more_of (o.done.front ++ d.front) (record { span = s; kind = lexeme.Word (codes "in") } ∷ [])
+            (sees_next language sound
+            (record { span = r; kind = lexeme.Word (codes "not") } ∷
+            (record { span = s; kind = lexeme.Word (codes "in") } ∷ v)))) d refl refl (omega arith))
+            (sees_next language sound (record { span = s; kind = lexeme.Word (codes "in") } ∷ v)))
+            refl) (omega arith);
+        some = more_of (o.done.front ++ d.front)
+            (record { span = s; kind = lexeme.Word (codes "in") } ∷ [])
             (more_of o.done.front d.front (read_takes o refl));
-        stands = ends_token x.extent x.extent o.done.front d.front (record { span = s; kind = lexeme.Word (codes "in") }) o.whole (read_takes o refl);
+        stands = ends_token x.extent x.extent o.done.front d.front
+            (record { span = s; kind = lexeme.Word (codes "in") }) o.whole (read_takes o refl);
       };
     }
 
@@ -816,41 +970,61 @@ pub not_listing : (alias : Bool) (below : ℕ) (tokens v q u : List Token) (x : 
 not_listing alias below tokens v q u x o n k =
     not_in_here alias below tokens n.span k.span u x
     (subst (λ (z : List Token). IsOperand rule.sum below tokens z x)
-    (n.same ∙ ap (λ (z : List Token). record { span = n.span; kind = lexeme.Word (codes "not") } ∷ z) k.same) o)
+    (n.same ∙ ap (λ (z : List Token). record { span = n.span; kind = lexeme.Word (codes "not") }
+    ∷ z) k.same) o)
 
-between_here : (alias : Bool) (below : ℕ) (tokens : List Token) (s : Span) (v : List Token) (x : Found)
-    → IsOperand rule.sum below tokens (record { span = s; kind = lexeme.Word (codes "between") } ∷ v) x → IsRanging alias below false tokens v x
+between_here : (alias : Bool) (below : ℕ) (tokens : List Token) (s : Span) (v : List Token)
+    (x : Found)
+    → IsOperand rule.sum below tokens
+    (record { span = s; kind = lexeme.Word (codes "between") } ∷ v) x
+    → IsRanging alias below false tokens v x
 unfolding behind behind_at keyword_of is_intro is_called
 between_here true below tokens s v x o =
-    let d : Done language (behind rule.not_option) 1 (at below rule.not_option) (record { span = s; kind = lexeme.Word (codes "between") } ∷ v) (record { span = s; kind = lexeme.Word (codes "between") } ∷ v)
-    (flag false) = not_none below (record { span = s; kind = lexeme.Word (codes "between") } ∷ v) refl in
+    let d : Done language (behind rule.not_option) 1 (at below rule.not_option)
+    (record { span = s; kind = lexeme.Word (codes "between") } ∷ v)
+    (record { span = s; kind = lexeme.Word (codes "between") } ∷ v)
+    (flag false) = not_none below (record { span = s; kind = lexeme.Word (codes "between") } ∷ v)
+    refl in
     record {
       last = s;
       token = record { span = s; kind = lexeme.Word (codes "between") };
       said = record {
-        front = (o.done.front ++ d.front) ++ (record { span = s; kind = lexeme.Word (codes "between") } ∷ []);
+        front = (o.done.front ++ d.front) ++
+            (record { span = s; kind = lexeme.Word (codes "between") } ∷ []);
         inside = widen language sound (take_token language sound
             (read_rule language sound (look language sound (begun true below tokens _ x o)
-            (sees_next language sound (record { span = s; kind = lexeme.Word (codes "between") } ∷ v))) d refl refl (omega arith)) refl) (omega arith);
-        some = more_of (o.done.front ++ d.front) (record { span = s; kind = lexeme.Word (codes "between") } ∷ [])
+            (sees_next language sound
+            (record { span = s; kind = lexeme.Word (codes "between") } ∷ v))) d refl refl
+            (omega arith)) refl) (omega arith);
+        some = more_of (o.done.front ++ d.front)
+            (record { span = s; kind = lexeme.Word (codes "between") } ∷ [])
             (more_of o.done.front d.front (read_takes o refl));
-        stands = ends_token x.extent x.extent o.done.front d.front (record { span = s; kind = lexeme.Word (codes "between") }) o.whole (read_takes o refl);
+        stands = ends_token x.extent x.extent o.done.front d.front
+            (record { span = s; kind = lexeme.Word (codes "between") }) o.whole (read_takes o refl);
       };
     }
 between_here false below tokens s v x o =
-    let d : Done language (behind rule.not_option) 1 (at below rule.not_option) (record { span = s; kind = lexeme.Word (codes "between") } ∷ v) (record { span = s; kind = lexeme.Word (codes "between") } ∷ v)
-    (flag false) = not_none below (record { span = s; kind = lexeme.Word (codes "between") } ∷ v) refl in
+    let d : Done language (behind rule.not_option) 1 (at below rule.not_option)
+    (record { span = s; kind = lexeme.Word (codes "between") } ∷ v)
+    (record { span = s; kind = lexeme.Word (codes "between") } ∷ v)
+    (flag false) = not_none below (record { span = s; kind = lexeme.Word (codes "between") } ∷ v)
+    refl in
     record {
       last = s;
       token = record { span = s; kind = lexeme.Word (codes "between") };
       said = record {
-        front = (o.done.front ++ d.front) ++ (record { span = s; kind = lexeme.Word (codes "between") } ∷ []);
+        front = (o.done.front ++ d.front) ++
+            (record { span = s; kind = lexeme.Word (codes "between") } ∷ []);
         inside = widen language sound (take_token language sound
             (read_rule language sound (look language sound (begun false below tokens _ x o)
-            (sees_next language sound (record { span = s; kind = lexeme.Word (codes "between") } ∷ v))) d refl refl (omega arith)) refl) (omega arith);
-        some = more_of (o.done.front ++ d.front) (record { span = s; kind = lexeme.Word (codes "between") } ∷ [])
+            (sees_next language sound
+            (record { span = s; kind = lexeme.Word (codes "between") } ∷ v))) d refl refl
+            (omega arith)) refl) (omega arith);
+        some = more_of (o.done.front ++ d.front)
+            (record { span = s; kind = lexeme.Word (codes "between") } ∷ [])
             (more_of o.done.front d.front (read_takes o refl));
-        stands = ends_token x.extent x.extent o.done.front d.front (record { span = s; kind = lexeme.Word (codes "between") }) o.whole (read_takes o refl);
+        stands = ends_token x.extent x.extent o.done.front d.front
+            (record { span = s; kind = lexeme.Word (codes "between") }) o.whole (read_takes o refl);
       };
     }
 
@@ -861,41 +1035,67 @@ ranging alias below tokens v u x o n =
     between_here alias below tokens n.span u x
     (subst (λ (z : List Token). IsOperand rule.sum below tokens z x) n.same o)
 
-not_between_here : (alias : Bool) (below : ℕ) (tokens : List Token) (r s : Span) (v : List Token) (x : Found)
-    → IsOperand rule.sum below tokens (record { span = r; kind = lexeme.Word (codes "not") } ∷ (record { span = s; kind = lexeme.Word (codes "between") } ∷ v)) x → IsRanging alias below true tokens v x
+not_between_here : (alias : Bool) (below : ℕ) (tokens : List Token) (r s : Span) (v : List Token)
+    (x : Found)
+    → IsOperand rule.sum below tokens
+    (record { span = r; kind = lexeme.Word (codes "not") } ∷
+    (record { span = s; kind = lexeme.Word (codes "between") } ∷ v)) x
+    → IsRanging alias below true tokens v x
 unfolding behind behind_at keyword_of is_intro is_called
 not_between_here true below tokens r s v x o =
-    let d : Done language (behind rule.not_option) 1 (at below rule.not_option) (record { span = r; kind = lexeme.Word (codes "not") } ∷ (record { span = s; kind = lexeme.Word (codes "between") } ∷ v)) (record { span = s; kind = lexeme.Word (codes "between") } ∷ v)
-    (flag true) = not_some_here below r (record { span = s; kind = lexeme.Word (codes "between") } ∷ v) in
+    let d : Done language (behind rule.not_option) 1 (at below rule.not_option)
+    (record { span = r; kind = lexeme.Word (codes "not") } ∷
+    (record { span = s; kind = lexeme.Word (codes "between") } ∷ v))
+    (record { span = s; kind = lexeme.Word (codes "between") } ∷ v)
+    (flag true) = not_some_here below r
+    (record { span = s; kind = lexeme.Word (codes "between") } ∷ v) in
     record {
       last = s;
       token = record { span = s; kind = lexeme.Word (codes "between") };
       said = record {
-        front = (o.done.front ++ d.front) ++ (record { span = s; kind = lexeme.Word (codes "between") } ∷ []);
+        front = (o.done.front ++ d.front) ++
+            (record { span = s; kind = lexeme.Word (codes "between") } ∷ []);
         inside = widen language sound (take_token language sound (look language sound
             (read_rule language sound (look language sound (begun true below tokens _ x o)
-            (sees_next language sound (record { span = r; kind = lexeme.Word (codes "not") } ∷ (record { span = s; kind = lexeme.Word (codes "between") } ∷ v)))) d refl refl (omega arith))
-            (sees_next language sound (record { span = s; kind = lexeme.Word (codes "between") } ∷ v))) refl) (omega arith);
-        some = more_of (o.done.front ++ d.front) (record { span = s; kind = lexeme.Word (codes "between") } ∷ [])
+            (sees_next language sound
+            (record { span = r; kind = lexeme.Word (codes "not") } ∷
+            (record { span = s; kind = lexeme.Word (codes "between") } ∷ v)))) d refl refl
+            (omega arith))
+            (sees_next language sound
+            (record { span = s; kind = lexeme.Word (codes "between") } ∷ v))) refl) (omega arith);
+        some = more_of (o.done.front ++ d.front)
+            (record { span = s; kind = lexeme.Word (codes "between") } ∷ [])
             (more_of o.done.front d.front (read_takes o refl));
-        stands = ends_token x.extent x.extent o.done.front d.front (record { span = s; kind = lexeme.Word (codes "between") }) o.whole (read_takes o refl);
+        stands = ends_token x.extent x.extent o.done.front d.front
+            (record { span = s; kind = lexeme.Word (codes "between") }) o.whole (read_takes o refl);
       };
     }
 not_between_here false below tokens r s v x o =
-    let d : Done language (behind rule.not_option) 1 (at below rule.not_option) (record { span = r; kind = lexeme.Word (codes "not") } ∷ (record { span = s; kind = lexeme.Word (codes "between") } ∷ v)) (record { span = s; kind = lexeme.Word (codes "between") } ∷ v)
-    (flag true) = not_some_here below r (record { span = s; kind = lexeme.Word (codes "between") } ∷ v) in
+    let d : Done language (behind rule.not_option) 1 (at below rule.not_option)
+    (record { span = r; kind = lexeme.Word (codes "not") } ∷
+    (record { span = s; kind = lexeme.Word (codes "between") } ∷ v))
+    (record { span = s; kind = lexeme.Word (codes "between") } ∷ v)
+    (flag true) = not_some_here below r
+    (record { span = s; kind = lexeme.Word (codes "between") } ∷ v) in
     record {
       last = s;
       token = record { span = s; kind = lexeme.Word (codes "between") };
       said = record {
-        front = (o.done.front ++ d.front) ++ (record { span = s; kind = lexeme.Word (codes "between") } ∷ []);
+        front = (o.done.front ++ d.front) ++
+            (record { span = s; kind = lexeme.Word (codes "between") } ∷ []);
         inside = widen language sound (take_token language sound (look language sound
             (read_rule language sound (look language sound (begun false below tokens _ x o)
-            (sees_next language sound (record { span = r; kind = lexeme.Word (codes "not") } ∷ (record { span = s; kind = lexeme.Word (codes "between") } ∷ v)))) d refl refl (omega arith))
-            (sees_next language sound (record { span = s; kind = lexeme.Word (codes "between") } ∷ v))) refl) (omega arith);
-        some = more_of (o.done.front ++ d.front) (record { span = s; kind = lexeme.Word (codes "between") } ∷ [])
+            (sees_next language sound
+            (record { span = r; kind = lexeme.Word (codes "not") } ∷
+            (record { span = s; kind = lexeme.Word (codes "between") } ∷ v)))) d refl refl
+            (omega arith))
+            (sees_next language sound
+            (record { span = s; kind = lexeme.Word (codes "between") } ∷ v))) refl) (omega arith);
+        some = more_of (o.done.front ++ d.front)
+            (record { span = s; kind = lexeme.Word (codes "between") } ∷ [])
             (more_of o.done.front d.front (read_takes o refl));
-        stands = ends_token x.extent x.extent o.done.front d.front (record { span = s; kind = lexeme.Word (codes "between") }) o.whole (read_takes o refl);
+        stands = ends_token x.extent x.extent o.done.front d.front
+            (record { span = s; kind = lexeme.Word (codes "between") }) o.whole (read_takes o refl);
       };
     }
 
@@ -905,7 +1105,8 @@ pub not_ranging : (alias : Bool) (below : ℕ) (tokens v q u : List Token) (x : 
 not_ranging alias below tokens v q u x o n k =
     not_between_here alias below tokens n.span k.span u x
     (subst (λ (z : List Token). IsOperand rule.sum below tokens z x)
-    (n.same ∙ ap (λ (z : List Token). record { span = n.span; kind = lexeme.Word (codes "not") } ∷ z) k.same) o)
+    (n.same ∙ ap (λ (z : List Token). record { span = n.span; kind = lexeme.Word (codes "not") }
+    ∷ z) k.same) o)
 
 -- Nothing, or nothing that can be.
 pub just_read : (alias : Bool) (below : ℕ) (tokens v : List Token) (x : Found)
@@ -923,7 +1124,8 @@ just_read false below tokens v x o h i j k =
     (sees_missing (word (codes "like") ∷ word (codes "in") ∷ word (codes "between") ∷ said_signs) v
     (both_missing _ _ i (both_missing _ _ j (both_missing _ _ k h))))) (look_least false v)) o.whole
 
-denied_here : (alias : Bool) (below : ℕ) (tokens : List Token) (r : Span) (v : List Token) (x : Found)
+denied_here : (alias : Bool) (below : ℕ) (tokens : List Token) (r : Span) (v : List Token)
+    (x : Found)
     → IsOperand rule.sum below tokens (record { span = r; kind = lexeme.Word (codes "not") } ∷ v) x
     → IsTrue (is_missing (word (codes "like")) v) → IsTrue (is_missing (word (codes "in")) v)
     → IsTrue (is_missing (word (codes "between")) v)
@@ -931,13 +1133,17 @@ denied_here : (alias : Bool) (below : ℕ) (tokens : List Token) (r : Span) (v :
 unfolding behind behind_at keyword_of is_intro is_called
 denied_here true below tokens r v x o i j k =
     is_missed (read_rule language sound (look language sound (begun true below tokens _ x o)
-    (sees_next language sound (record { span = r; kind = lexeme.Word (codes "not") } ∷ v))) (not_some_here below r v) refl refl (omega arith))
-    (sees_missing (word (codes "like") ∷ word (codes "in") ∷ word (codes "between") ∷ []) v (both_missing _ _ i (both_missing _ _ j (both_missing _ _ k refl))))
+    (sees_next language sound (record { span = r; kind = lexeme.Word (codes "not") } ∷ v)))
+    (not_some_here below r v) refl refl (omega arith))
+    (sees_missing (word (codes "like") ∷ word (codes "in") ∷ word (codes "between") ∷ []) v
+    (both_missing _ _ i (both_missing _ _ j (both_missing _ _ k refl))))
     refl (omega arith)
 denied_here false below tokens r v x o i j k =
     is_missed (read_rule language sound (look language sound (begun false below tokens _ x o)
-    (sees_next language sound (record { span = r; kind = lexeme.Word (codes "not") } ∷ v))) (not_some_here below r v) refl refl (omega arith))
-    (sees_missing (word (codes "like") ∷ word (codes "in") ∷ word (codes "between") ∷ []) v (both_missing _ _ i (both_missing _ _ j (both_missing _ _ k refl))))
+    (sees_next language sound (record { span = r; kind = lexeme.Word (codes "not") } ∷ v)))
+    (not_some_here below r v) refl refl (omega arith))
+    (sees_missing (word (codes "like") ∷ word (codes "in") ∷ word (codes "between") ∷ []) v
+    (both_missing _ _ i (both_missing _ _ j (both_missing _ _ k refl))))
     refl (omega arith)
 
 pub denied_missed : (alias : Bool) (below : ℕ) (tokens v u : List Token) (x : Found) (left : ℕ)
@@ -946,7 +1152,8 @@ pub denied_missed : (alias : Bool) (below : ℕ) (tokens v u : List Token) (x : 
     → IsTrue (is_missing (word (codes "between")) u) → left ≡ length u
     → IsFault (behind_at alias rule.pred) rule.pred below tokens (NoReading left)
 denied_missed alias below tokens v u x left o n i j k e =
-    subst (λ (m : ℕ). IsFault (behind_at alias rule.pred) rule.pred below tokens (NoReading m)) (sym e)
+    subst (λ (m : ℕ). IsFault (behind_at alias rule.pred) rule.pred below tokens (NoReading m))
+    (sym e)
     (denied_here alias below tokens n.span u x
     (subst (λ (z : List Token). IsOperand rule.sum below tokens z x) n.same o) i j k)
 

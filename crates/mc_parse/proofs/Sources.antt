@@ -253,3 +253,10 @@ given_fault tokens v fault n o =
     subst (λ (ts : List Token). IsClauseFault source_option ts fault) (sym n.same)
     (given_fault_here n.span v fault
     (subst (λ (ts : List Token). IsClauseFault a_source ts fault) n.same o))
+
+-- The ways through each function, by its name.
+pub ruleset where_option_ways = (where_read, where_left, where_fault)
+
+pub ruleset source_ways = (source_read, source_missed, table_missed, filter_fault, groups_fault)
+
+pub ruleset source_option_ways = (source_given, source_left, given_fault)

@@ -242,7 +242,8 @@ item_missed tokens fault h o =
     record { fails = λ all front vs p. first_fault tokens fault all front vs h o p }
 
 -- Inside a statement, behind its first item.
-record FirstRead (tokens v : List Token) (i : Item) (all : List Token) (vs : List Value) : Type 0 where
+record FirstRead (tokens v : List Token) (i : Item) (all : List Token)
+    (vs : List Value) : Type 0 where
   front : List Token
   inside : IsBehind false (vs ++ (an_item i ∷ [])) all front v
 
@@ -289,7 +290,8 @@ pub items_read : (tokens v rest : List Token) (before with_first now : Statement
     → ReadsOn false v rest with_first now → ReadsItems tokens rest before now
 items_read tokens v rest before with_first now h f e o = record {
   reads = λ all front explain distinct word p same.
-      let first : FirstRead tokens v f.member all (flag explain ∷ a_token word ∷ flag distinct ∷ []) =
+      let first : FirstRead tokens v f.member all
+      (flag explain ∷ a_token word ∷ flag distinct ∷ []) =
       first_read tokens v f.member all front (flag explain ∷ a_token word ∷ flag distinct ∷ []) h
       (record { done = f.done }) p in
       o.reads all first.front _ (a_statement now) first.inside
@@ -370,3 +372,10 @@ pub statement_fault : (tokens v u w : List Token) (e d : Bool) (fault : Fault)
 statement_fault tokens v u w e d fault o n i j =
     let p : SelectRead tokens w e d = select_read tokens v u w e d o n i in
     j.fails tokens p.front _ p.inside
+
+-- The ways through each function, by its name.
+pub ruleset clauses_ways = (clauses_read, items_fault, source_fault, orders_fault, limit_fault)
+
+pub ruleset items_ways = (star_read, star_fault, items_read, item_missed, items_missed)
+
+pub ruleset statement_ways = (select_missed, statement_read, statement_fault)

@@ -1,5 +1,7 @@
 -- The ways through the functions that read strings.
-use Rattle.std.proofs.Common.{◌≡◌, refl, sym, ap, ◌∙◌, subst, ℕ, suc, ◌+◌, ◌<◌, ◌≤◌, Bool, true, false, not, ◌&&◌, List, [], ◌∷◌, ◌++◌, IsTrue, Option, Some, None, length, drop, append_assoc, append-nil, arith}
+use Rattle.std.proofs.Common.{◌≡◌, refl, sym, ap, ◌∙◌, subst, ℕ, suc, ◌+◌, ◌<◌, ◌≤◌, Bool, true}
+use Rattle.std.proofs.Common.{false, not, ◌&&◌, List, [], ◌∷◌, ◌++◌, IsTrue, Option, Some, None}
+use Rattle.std.proofs.Common.{length, drop, append_assoc, append-nil, arith}
 use Rattle.mc_base.specs.declared.span.Span.{Span}
 use Rattle.mc_token.specs.declared.lexeme.Lexeme.{Lexeme}
 use Rattle.mc_token.specs.declared.lexeme.Lexeme.TheVariants as lexeme
@@ -11,7 +13,8 @@ use Rattle.mc_grammar.proofs.Seeing.{sees_next}
 use Rattle.mc_grammar.proofs.Inside.{enter}
 use Rattle.mc_grammar.proofs.Links.{chain_start, chain_widen, chain_end, chain_step}
 use Rattle.mc_grammar.proofs.Ways.{choose, take_token, read_rule, look, widen}
-use Rattle.mc_sql.specs.Classes.{Class, word, mark, name, called, called_otherwise, intro, int, str, national, hex, is_intro, is_lexeme_of}
+use Rattle.mc_sql.specs.Classes.{Class, word, mark, name, called, called_otherwise, intro, int, str}
+use Rattle.mc_sql.specs.Classes.{national, hex, is_intro, is_lexeme_of}
 use Rattle.mc_sql.specs.Rules as rule
 use Rattle.mc_ast.specs.Grouping.{whole}
 use Rattle.mc_ast.specs.Spans.{from_to, span_from, span_of}
@@ -96,7 +99,8 @@ strs_read below tokens rest first now from to p h = ended (choose language sound
     (sees_missing (str ∷ []) rest (both_missing _ _ h refl)))
   where
     ended : Inside language (behind rule.more_strs) 1 (at below rule.more_strs)
-        (record { alternative = record { what = rule.no_more_strs; room = suc below }; left = [] } ∷ [])
+        (record { alternative = record { what = rule.no_more_strs; room = suc below }; left = [] }
+        ∷ [])
         [] rest [] rest
         → IsJoined below tokens rest first now from to
     ended q = record {
@@ -130,7 +134,8 @@ plain_here below s w v u t e o =
     (record { span = s; kind = lexeme.Str w } ∷ v) u
     (operand (whole (span_from s o.done.front) (Str z))) (span_from s o.done.front)) (sym o.joined)
     (is_read (read_rule language sound (take_token language sound
-    (choose language sound (sees_next language sound _)) refl) o.done refl refl (omega arith)) refl))
+    (choose language sound (sees_next language sound _)) refl) o.done refl refl (omega arith))
+    refl))
 
 pub plain_read : (below : ℕ) (tokens v u : List Token) (w t : List ℕ) (s e : Span) (x : Found)
     → IsNext (lexeme.Str w) tokens v → s ≡ span_at tokens → IsJoined below v u w t s e
@@ -155,7 +160,8 @@ national_here below s w v u t e o =
     (operand (whole (span_from s o.done.front) (National z))) (span_from s o.done.front))
     (sym o.joined)
     (is_read (read_rule language sound (take_token language sound
-    (choose language sound (sees_next language sound _)) refl) o.done refl refl (omega arith)) refl))
+    (choose language sound (sees_next language sound _)) refl) o.done refl refl (omega arith))
+    refl))
 
 pub national_read : (below : ℕ) (tokens v u : List Token) (w t : List ℕ) (s e : Span) (x : Found)
     → IsNext (lexeme.National w) tokens v → s ≡ span_at tokens → IsJoined below v u w t s e
@@ -283,10 +289,12 @@ intro_here below s i s' w v u t e h o =
     (from_to s (span_from s' o.done.front))) (sym o.joined)
     (is_read (read_rule language sound (take_token language sound
     (look language sound (take_token language sound (choose language sound (sees_word s i _))
-    (both_next (is_intro i) (is_intro i) h h)) (sees_next language sound _)) refl) o.done refl refl (omega arith))
+    (both_next (is_intro i) (is_intro i) h h)) (sees_next language sound _)) refl) o.done refl refl
+    (omega arith))
     refl))
 
-pub intro_read : (below : ℕ) (tokens r v u : List Token) (i w set t : List ℕ) (s e : Span) (x : Found)
+pub intro_read : (below : ℕ) (tokens r v u : List Token) (i w set t : List ℕ) (s e : Span)
+    (x : Found)
     → IsTextOf intro tokens r i → IsNext (lexeme.Str w) r v
     → s ≡ from_to (span_at tokens) (span_at r) → set ≡ drop 1 i
     → IsJoined below v u w t s e → as_operand x ≡ whole e (IntroStr set t)
@@ -312,9 +320,11 @@ unfolding behind
 intro_hex_here below s i s' w v h =
     is_read (widen language sound (take_token language sound
     (look language sound (take_token language sound (choose language sound (sees_word s i _))
-    (both_next (is_intro i) (is_intro i) h h)) (sees_next language sound _)) refl) (omega arith)) refl
+    (both_next (is_intro i) (is_intro i) h h)) (sees_next language sound _)) refl) (omega arith))
+    refl
 
-pub intro_hex_read : (below : ℕ) (tokens r v : List Token) (i w set t : List ℕ) (s : Span) (x : Found)
+pub intro_hex_read : (below : ℕ) (tokens r v : List Token) (i w set t : List ℕ) (s : Span)
+    (x : Found)
     → IsTextOf intro tokens r i → IsNext (lexeme.Hex w) r v
     → s ≡ from_to (span_at tokens) (span_at r) → set ≡ drop 1 i → t ≡ w
     → as_operand x ≡ whole s (IntroHex set t) → IsOperand rule.string below tokens v x
@@ -340,7 +350,8 @@ unfolding behind
 intro_missed_here below s i v h a b =
     is_missed (take_token language sound (choose language sound (sees_word s i _))
     (both_next (is_intro i) (is_intro i) h h))
-    (sees_missing (str ∷ hex ∷ []) v (both_missing _ _ a (both_missing _ _ b refl))) refl (omega arith)
+    (sees_missing (str ∷ hex ∷ []) v (both_missing _ _ a (both_missing _ _ b refl))) refl
+    (omega arith)
 
 pub intro_missed : (below : ℕ) (tokens r : List Token) (i : List ℕ) (left : ℕ)
     → IsTextOf intro tokens r i → IsTrue (is_missing str r) → IsTrue (is_missing hex r)

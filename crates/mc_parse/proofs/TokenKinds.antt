@@ -1,5 +1,6 @@
 -- What the kind of a token tells of its classes.
-use Rattle.std.proofs.Common.{◌≡◌, ◌≢◌, inl, inr, refl, sym, ap, ◌∙◌, subst, ℕ, Bool, true, false, not, ◌&&◌, ◌||◌, List, [], ◌∷◌, IsTrue, Option, Some, None, drop}
+use Rattle.std.proofs.Common.{◌≡◌, ◌≢◌, inl, inr, refl, sym, ap, ◌∙◌, subst, ℕ, Bool, true, false}
+use Rattle.std.proofs.Common.{not, ◌&&◌, ◌||◌, List, [], ◌∷◌, IsTrue, Option, Some, None, drop}
 use Rattle.std.specs.Prelude.{is_none, is_some, option_map, find, nat_eq, map, cond, if◌then◌else◌}
 use Rattle.std.specs.List.{list_any}
 use Rattle.std.specs.Str.{bytes_eq}
@@ -15,7 +16,8 @@ use Rattle.mc_token.specs.Marks.{mark_text}
 use Rattle.mc_token.specs.declared.keyword.Keyword.{Keyword as AKeyword}
 use Rattle.mc_token.specs.declared.keyword.Keyword.TheVariants as keyword
 use Rattle.mc_token.specs.declared.kind.TokenKind.{TokenKind}
-use Rattle.mc_token.specs.declared.kind.TokenKind.TheVariants.{Keyword, Introducer, Word, Name, Int, Str, National, Hex, Sym}
+use Rattle.mc_token.specs.declared.kind.TokenKind.TheVariants.{Keyword, Introducer, Word, Name, Int}
+use Rattle.mc_token.specs.declared.kind.TokenKind.TheVariants.{Str, National, Hex, Sym}
 use Rattle.mc_token.specs.declared.lexeme.Lexeme.{Lexeme}
 use Rattle.mc_token.specs.declared.lexeme.Lexeme.TheVariants as lexeme
 use Rattle.mc_token.specs.declared.lexeme.Symbol.{Symbol}
@@ -24,7 +26,8 @@ use Rattle.mc_token.proofs.Keywords.{keyword_exact}
 use Rattle.mc_sql.specs.Classes.{Class, word, mark, name, int, str, is_intro, is_lexeme_of}
 use Rattle.mc_ast.specs.Values.{lexeme_text, lexeme_number}
 use Rattle.mc_sql.proofs.Spellings.{spelled, spelled-spelling}
-use Rattle.mc_parse.specs.Place.{is_kind, is_at, is_missing, is_name_kind, text_at, number_at, IsNext, IsTextOf}
+use Rattle.mc_parse.specs.Place.{is_kind, is_at, is_missing, is_name_kind, text_at, number_at}
+use Rattle.mc_parse.specs.Place.{IsNext, IsTextOf}
 
 -- Tests
 
@@ -242,7 +245,8 @@ mark_here s span (lexeme.Sym other) ts h = record {
 mark_here s span _ ts h = cc
 
 pub mark_next : (kind : Option TokenKind) (s : Symbol) (tokens : List Token)
-    → IsTrue (is_at kind tokens) → kind ≡ Some (Sym s) → IsNext (lexeme.Sym s) tokens (drop 1 tokens)
+    → IsTrue (is_at kind tokens) → kind ≡ Some (Sym s) → IsNext (lexeme.Sym s) tokens
+    (drop 1 tokens)
 mark_next kind s tokens h e =
     by_tokens tokens (subst (λ (o : Option TokenKind). IsTrue (is_at o tokens)) e h)
   where
@@ -382,3 +386,14 @@ str_missing None (t ∷ ts) h ne = cc
 str_missing (Some kind) [] h ne = cc
 str_missing (Some kind) (t ∷ ts) h ne =
     test_false (is_lexeme_of str t.kind) (λ m. ne (ap (λ x. Some x) (str_kind kind t.kind h m)))
+
+-- The ways through each function, by its name.
+pub ruleset keyword_ways = (keyword_next, keyword_missing)
+
+pub ruleset mark_ways = (mark_next, mark_missing)
+
+pub ruleset name_ways = (name_next, name_missing)
+
+pub ruleset int_ways = (int_next, int_missing)
+
+pub ruleset str_ways = (str_next, str_missing)

@@ -1,5 +1,6 @@
 -- The ways through the functions that read TRIM.
-use Rattle.std.proofs.Common.{◌≡◌, refl, sym, ap, subst, ℕ, false, List, [], ◌∷◌, IsTrue, Option, Some, None, length, arith, codes}
+use Rattle.std.proofs.Common.{◌≡◌, refl, sym, ap, subst, ℕ, false, List, [], ◌∷◌, IsTrue, Option}
+use Rattle.std.proofs.Common.{Some, None, length, arith, codes}
 use Rattle.std.specs.Option.{option_map}
 use Rattle.mc_base.specs.declared.span.Span.{Span}
 use Rattle.mc_token.specs.Keywords.{keyword_of}
@@ -26,7 +27,8 @@ use Rattle.mc_parse.specs.Place.{is_missing, are_missing, IsNext}
 use Rattle.mc_parse.specs.Read.{IsFault, as_operand, IsOperandAt}
 use Rattle.mc_parse.specs.Calls.{IsInCall, IsCallRead, IsCallFault, IsClosed, IsUnclosed}
 use Rattle.mc_parse.proofs.Ways.{sound, both_missing, sees_missing, is_read, is_fault}
-use Rattle.mc_parse.proofs.CallSteps.{in_token, in_rule, in_next, in_missing, in_fault, in_missed, in_closed, in_unclosed}
+use Rattle.mc_parse.proofs.CallSteps.{in_token, in_rule, in_next, in_missing, in_fault, in_missed}
+use Rattle.mc_parse.proofs.CallSteps.{in_closed, in_unclosed}
 
 -- The side
 

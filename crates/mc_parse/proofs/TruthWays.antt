@@ -1,5 +1,7 @@
 -- The ways through the functions that read operators on truth.
-use Rattle.std.proofs.Common.{◌≡◌, refl, sym, ap, ◌∙◌, subst, ℕ, zero, suc, ◌+◌, ◌<◌, ◌≤◌, Bool, true, false, not, ◌&&◌, List, [], ◌∷◌, ◌++◌, IsTrue, length, arith, codes}
+use Rattle.std.proofs.Common.{◌≡◌, refl, sym, ap, ◌∙◌, subst, ℕ, zero, suc, ◌+◌, ◌<◌, ◌≤◌, Bool}
+use Rattle.std.proofs.Common.{true, false, not, ◌&&◌, List, [], ◌∷◌, ◌++◌, IsTrue, length, arith}
+use Rattle.std.proofs.Common.{codes}
 use Rattle.mc_base.specs.declared.span.Span.{Span}
 use Rattle.mc_token.specs.declared.lexeme.Lexeme.TheVariants as lexeme
 use Rattle.mc_token.specs.declared.lexeme.Token.{Token}
@@ -24,7 +26,8 @@ use Rattle.mc_parse.specs.Lists.{joined, IsListed}
 use Rattle.mc_parse.specs.Place.{is_missing, span_at, IsNext}
 use Rattle.mc_parse.specs.Read.{IsRead, IsFault, as_operand, IsOperandAt, IsFolded}
 use Rattle.mc_parse.proofs.Spans.{span_from-one, span_of-one}
-use Rattle.mc_parse.proofs.Ways.{sound, both_missing, sees_missing, is_read, is_fault, is_barred_here, is_link_fault, read_takes, link_shorter}
+use Rattle.mc_parse.proofs.Ways.{sound, both_missing, sees_missing, is_read, is_fault}
+use Rattle.mc_parse.proofs.Ways.{is_barred_here, is_link_fault, read_takes, link_shorter}
 use Rattle.mc_parse.proofs.Folds.{IsFolding, folds_none, folds_link, folds_all, grouped_xor-last}
 use Rattle.mc_parse.proofs.Listing.{IsListing, lists_none, lists_link, lists_all}
 use Rattle.mc_parse.proofs.Groups.{group_read}
@@ -141,13 +144,16 @@ pub or_more_missed : (alias : Bool) (below : ℕ) (tokens v u : List Token) (x :
 or_more_missed alias below tokens v u x fault p n o =
     or_more_missed_here alias below tokens n.span u x fault
     (subst (λ (z : List Token). IsOperandAt alias rule.xor below tokens z x) n.same p)
-    (subst (λ (z : List Token). IsFault (behind_at alias rule.more_xors) rule.more_xors below z fault)
+    (subst (λ (z : List Token). IsFault (behind_at alias rule.more_xors) rule.more_xors below
+    z fault)
     n.same o)
 
 -- Links of OR are read.
-abbrev pub IsOring : Bool → ℕ → List Token → List Token → List Expr → List Expr → Span → Span → Type 0
+abbrev pub IsOring : Bool → ℕ → List Token → List Token → List Expr → List Expr → Span → Span
+    → Type 0
 IsOring alias below tokens rest old now first last =
-    IsListing (behind_at alias rule.more_xors) (look_at alias rest) rule.more_xors below tokens rest old now
+    IsListing (behind_at alias rule.more_xors) (look_at alias rest) rule.more_xors below tokens rest
+    old now
     first last
 
 or_link_here : (alias : Bool) (below : ℕ) (tokens : List Token) (s : Span) (v w : List Token)
@@ -186,7 +192,8 @@ or_link alias below tokens rest v w old now next first last later x p n o h e =
 pub or_listed : (alias : Bool) (below : ℕ) (tokens rest : List Token) (old new : List Expr)
     (first last : Span) → IsOring alias below tokens rest old new first last
     → IsTrue (is_missing (word (codes "or")) rest)
-    → IsListed (behind_at alias rule.more_xors) (look_at alias rest) rule.more_xors below tokens rest old new
+    → IsListed (behind_at alias rule.more_xors) (look_at alias rest) rule.more_xors below tokens
+    rest old new
     first last
 unfolding behind_at keyword_of is_intro is_called
 or_listed true below tokens rest old new first last p h =
@@ -294,13 +301,16 @@ pub and_more_missed : (alias : Bool) (below : ℕ) (tokens v u : List Token) (x 
 and_more_missed alias below tokens v u x fault p n o =
     and_more_missed_here alias below tokens n.span u x fault
     (subst (λ (z : List Token). IsOperandAt alias rule.not below tokens z x) n.same p)
-    (subst (λ (z : List Token). IsFault (behind_at alias rule.more_nots) rule.more_nots below z fault)
+    (subst (λ (z : List Token). IsFault (behind_at alias rule.more_nots) rule.more_nots below
+    z fault)
     n.same o)
 
 -- Links of AND are read.
-abbrev pub IsAnding : Bool → ℕ → List Token → List Token → List Expr → List Expr → Span → Span → Type 0
+abbrev pub IsAnding : Bool → ℕ → List Token → List Token → List Expr → List Expr → Span → Span
+    → Type 0
 IsAnding alias below tokens rest old now first last =
-    IsListing (behind_at alias rule.more_nots) (look_at alias rest) rule.more_nots below tokens rest old now
+    IsListing (behind_at alias rule.more_nots) (look_at alias rest) rule.more_nots below tokens rest
+    old now
     first last
 
 and_link_here : (alias : Bool) (below : ℕ) (tokens : List Token) (s : Span) (v w : List Token)
@@ -339,7 +349,8 @@ and_link alias below tokens rest v w old now next first last later x p n o h e =
 pub and_listed : (alias : Bool) (below : ℕ) (tokens rest : List Token) (old new : List Expr)
     (first last : Span) → IsAnding alias below tokens rest old new first last
     → IsTrue (is_missing (word (codes "and")) rest)
-    → IsListed (behind_at alias rule.more_nots) (look_at alias rest) rule.more_nots below tokens rest old new
+    → IsListed (behind_at alias rule.more_nots) (look_at alias rest) rule.more_nots below tokens
+    rest old new
     first last
 unfolding behind_at keyword_of is_intro is_called
 and_listed true below tokens rest old new first last p h =
@@ -439,7 +450,8 @@ pub xor_more_missed : (alias : Bool) (below : ℕ) (tokens v u : List Token) (x 
 xor_more_missed alias below tokens v u x fault p n o =
     xor_more_missed_here alias below tokens n.span u x fault
     (subst (λ (z : List Token). IsOperandAt alias rule.and below tokens z x) n.same p)
-    (subst (λ (z : List Token). IsFault (behind_at alias rule.more_ands) rule.more_ands below z fault)
+    (subst (λ (z : List Token). IsFault (behind_at alias rule.more_ands) rule.more_ands below
+    z fault)
     n.same o)
 
 -- Links of XOR are read.
@@ -450,7 +462,8 @@ IsXoring alias below tokens rest first now =
 
 xor_link_here : (alias : Bool) (below : ℕ) (tokens : List Token) (s : Span) (v w : List Token)
     (first now next : Operand) (x : Found)
-    → IsXoring alias below tokens (record { span = s; kind = lexeme.Word (codes "xor") } ∷ v) first now
+    → IsXoring alias below tokens (record { span = s; kind = lexeme.Word (codes "xor") } ∷ v) first
+    now
     → IsOperandAt alias rule.and below v w x
     → next ≡ whole (from_to now.extent x.extent) (Xor now.expr x.expr)
     → IsXoring alias below tokens w first next
@@ -554,20 +567,25 @@ not_pred_missed false below tokens fault h o =
 
 not_here : (alias : Bool) (below : ℕ) (s : Span) (v w : List Token) (x : Found)
     → IsOperandAt alias rule.not below v w x
-    → IsRead (behind_at alias rule.not) (look_at alias w) rule.not (suc below) (record { span = s; kind = lexeme.Word (codes "not") } ∷ v) w
+    → IsRead (behind_at alias rule.not) (look_at alias w) rule.not (suc below)
+    (record { span = s; kind = lexeme.Word (codes "not") } ∷ v) w
     (operand (whole (from_to s x.extent) (Not x.expr))) (from_to s x.extent)
 unfolding behind_at keyword_of is_intro is_called
 not_here true below s v w x o =
     subst (λ (e : Span). IsRead (behind_at true rule.not) (look_at true w) rule.not (suc below)
-    (record { span = s; kind = lexeme.Word (codes "not") } ∷ v) w (operand (whole e (Not x.expr))) e)
-    (sym (ap (λ (e : Span). from_to s e) o.whole ∙ span_of-one (record { span = s; kind = lexeme.Word (codes "not") })
+    (record { span = s; kind = lexeme.Word (codes "not") } ∷ v) w
+    (operand (whole e (Not x.expr))) e)
+    (sym (ap (λ (e : Span). from_to s e) o.whole ∙ span_of-one
+    (record { span = s; kind = lexeme.Word (codes "not") })
     o.done.front (read_takes o refl)))
     (is_read (read_rule language sound (take_token language sound
     (choose language sound (sees_next language sound _)) refl) o.done refl refl (omega arith)) refl)
 not_here false below s v w x o =
     subst (λ (e : Span). IsRead (behind_at false rule.not) (look_at false w) rule.not (suc below)
-    (record { span = s; kind = lexeme.Word (codes "not") } ∷ v) w (operand (whole e (Not x.expr))) e)
-    (sym (ap (λ (e : Span). from_to s e) o.whole ∙ span_of-one (record { span = s; kind = lexeme.Word (codes "not") })
+    (record { span = s; kind = lexeme.Word (codes "not") } ∷ v) w
+    (operand (whole e (Not x.expr))) e)
+    (sym (ap (λ (e : Span). from_to s e) o.whole ∙ span_of-one
+    (record { span = s; kind = lexeme.Word (codes "not") })
     o.done.front (read_takes o refl)))
     (is_read (read_rule language sound (take_token language sound
     (choose language sound (sees_next language sound _)) refl) o.done refl refl (omega arith)) refl)
@@ -578,7 +596,8 @@ pub not_read : (alias : Bool) (below inner : ℕ) (tokens v w : List Token) (s :
     → as_operand y ≡ whole (from_to s x.extent) (Not x.expr)
     → IsOperandAt alias rule.not below tokens w y
 not_read alias below inner tokens v w s x y e n at_word o h =
-    subst (λ (z : Operand). IsRead (behind_at alias rule.not) (look_at alias w) rule.not below tokens w
+    subst (λ (z : Operand). IsRead (behind_at alias rule.not)
+    (look_at alias w) rule.not below tokens w
     (operand z) z.extent) (sym h)
     (subst (λ (m : ℕ). IsRead (behind_at alias rule.not) (look_at alias w) rule.not m tokens w
     (operand (whole (from_to s x.extent) (Not x.expr))) (from_to s x.extent)) (sym e)
@@ -591,7 +610,8 @@ not_read alias below inner tokens v w s x y e n at_word o h =
 
 not_missed_here : (alias : Bool) (below : ℕ) (s : Span) (v : List Token) (fault : Fault)
     → IsFault (behind_at alias rule.not) rule.not below v fault
-    → IsFault (behind_at alias rule.not) rule.not (suc below) (record { span = s; kind = lexeme.Word (codes "not") } ∷ v) fault
+    → IsFault (behind_at alias rule.not) rule.not (suc below)
+    (record { span = s; kind = lexeme.Word (codes "not") } ∷ v) fault
 unfolding behind_at keyword_of is_intro is_called
 not_missed_here true below s v fault o =
     is_fault (take_token language sound (choose language sound (sees_next language sound _)) refl)
@@ -610,7 +630,9 @@ not_missed alias below inner tokens v fault e n o =
     (sym n.same) (not_missed_here alias inner n.span v fault o))
 
 not_deep_here : (alias : Bool) (s : Span) (v : List Token)
-    → IsFault (behind_at alias rule.not) rule.not 0 (record { span = s; kind = lexeme.Word (codes "not") } ∷ v) (TooDeep (length (record { span = s; kind = lexeme.Word (codes "not") } ∷ v)))
+    → IsFault (behind_at alias rule.not) rule.not 0
+    (record { span = s; kind = lexeme.Word (codes "not") } ∷ v)
+    (TooDeep (length (record { span = s; kind = lexeme.Word (codes "not") } ∷ v)))
 unfolding behind_at keyword_of is_intro is_called
 not_deep_here true s v =
     is_barred_here (choose language sound (sees_next language sound _)) refl (omega arith)
@@ -622,7 +644,9 @@ pub not_deep : (alias : Bool) (below : ℕ) (tokens v : List Token) (left : ℕ)
     → IsFault (behind_at alias rule.not) rule.not below tokens (TooDeep left)
 not_deep alias below tokens v left e n l =
     subst (λ (m : ℕ). IsFault (behind_at alias rule.not) rule.not below tokens (TooDeep m)) (sym l)
-    (subst (λ (m : ℕ). IsFault (behind_at alias rule.not) rule.not m tokens (TooDeep (length tokens)))
+    (subst (λ (m : ℕ). IsFault (behind_at alias rule.not) rule.not m tokens
+    (TooDeep (length tokens)))
     (sym e)
-    (subst (λ (z : List Token). IsFault (behind_at alias rule.not) rule.not 0 z (TooDeep (length z)))
+    (subst (λ (z : List Token). IsFault (behind_at alias rule.not) rule.not 0 z
+    (TooDeep (length z)))
     (sym n.same) (not_deep_here alias n.span v)))

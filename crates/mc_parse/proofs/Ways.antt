@@ -1,5 +1,7 @@
 -- The steps of a way through a function that reads a rule of the statements, and how it answers.
-use Rattle.std.proofs.Common.{◌≡◌, refl, sym, ap, ◌∙◌, subst, ℕ, ◌+◌, ◌<◌, ◌≤◌, Bool, true, false, not, ◌&&◌, ◌||◌, List, [], ◌∷◌, ◌++◌, length, map, IsTrue, Option, Some, None, arith}
+use Rattle.std.proofs.Common.{◌≡◌, refl, sym, ap, ◌∙◌, subst, ℕ, ◌+◌, ◌<◌, ◌≤◌, Bool, true, false}
+use Rattle.std.proofs.Common.{not, ◌&&◌, ◌||◌, List, [], ◌∷◌, ◌++◌, length, map, IsTrue, Option}
+use Rattle.std.proofs.Common.{Some, None, arith}
 use Rattle.std.specs.List.{list_any}
 use Rattle.mc_base.specs.declared.span.Span.{Span}
 use Rattle.mc_token.specs.declared.lexeme.Lexeme.{Lexeme}
@@ -7,7 +9,8 @@ use Rattle.mc_token.specs.declared.lexeme.Token.{Token}
 use Rattle.mc_grammar.specs.Grammar.{rule}
 use Rattle.mc_grammar.specs.Ahead.{Ahead, every, is_within_next}
 use Rattle.mc_grammar.specs.Language.{IsSound}
-use Rattle.mc_grammar.specs.Places.{Place, behind_next, before, entries, all_pass, all_out, is_barred, is_met, Sees, Inside, Done}
+use Rattle.mc_grammar.specs.Places.{Place, behind_next, before, entries, all_pass, all_out}
+use Rattle.mc_grammar.specs.Places.{is_barred, is_met, Sees, Inside, Done}
 use Rattle.mc_grammar.specs.Chains.{Chain}
 use Rattle.mc_grammar.specs.Completions.{Complete}
 use Rattle.mc_grammar.specs.Room.{Roomed, Admitted, free_completions}
@@ -21,7 +24,7 @@ use Rattle.mc_sql.specs.Rules.{Rule, Alternative}
 use Rattle.mc_sql.specs.Statements.{statements}
 use Rattle.mc_sql.specs.Nest.{deeper}
 use Rattle.mc_sql.specs.Completions.{completions}
-use Rattle.mc_sql.proofs.Tables.{tables}
+use Rattle.mc_sql.specs.Tables.{tables}
 use Rattle.mc_sql.proofs.Sound.{covers}
 use Rattle.mc_sql.proofs.Completing.{completed}
 use Rattle.mc_ast.specs.Meaning.{meaning}

@@ -1,5 +1,6 @@
 -- The ways through the functions that read WEIGHT_STRING.
-use Rattle.std.proofs.Common.{◌≡◌, refl, sym, ap, ◌∙◌, subst, ℕ, ℤ, suc, false, List, [], ◌∷◌, drop, IsTrue, Option, Some, None, length, arith, codes}
+use Rattle.std.proofs.Common.{◌≡◌, refl, sym, ap, ◌∙◌, subst, ℕ, ℤ, suc, false, List, [], ◌∷◌, drop}
+use Rattle.std.proofs.Common.{IsTrue, Option, Some, None, length, arith, codes}
 use Rattle.mc_base.specs.declared.span.Span.{Span}
 use Rattle.mc_token.specs.Keywords.{keyword_of}
 use Rattle.mc_token.specs.declared.lexeme.Lexeme.TheVariants.{Word, Sym, Int}
@@ -24,15 +25,18 @@ use Rattle.mc_parse.specs.Place.{is_missing, IsNext}
 use Rattle.mc_parse.specs.Read.{IsFault, as_operand, IsOperandAt}
 use Rattle.mc_parse.specs.Calls.{IsInCall, IsCallRead, IsCallFault, IsClosed, IsUnclosed}
 use Rattle.mc_parse.specs.Cuts.{cut_in, unit_word, IsCutWord, HasCut}
-use Rattle.mc_parse.proofs.Ways.{sound, both_missing, sees_missing, is_read, is_missed, is_barred_here}
-use Rattle.mc_parse.proofs.CallSteps.{in_rule, in_next, in_missing, in_fault, in_closed, in_unclosed}
+use Rattle.mc_parse.proofs.Ways.{sound, both_missing, sees_missing, is_read, is_missed}
+use Rattle.mc_parse.proofs.Ways.{is_barred_here}
+use Rattle.mc_parse.proofs.CallSteps.{in_rule, in_next, in_missing, in_fault, in_closed}
+use Rattle.mc_parse.proofs.CallSteps.{in_unclosed}
 
 -- The option
 
 -- Its tokens up to the word behind AS, and its `(`.
 abbrev cut_begun : CutUnit → Span → Span → List Token → List Token
 cut_begun unit s t v =
-    record { span = s; kind = Word (codes "as") } ∷ record { span = t; kind = Word (unit_word unit) } ∷ v
+    record { span = s; kind = Word (codes "as") } ∷ record
+    { span = t; kind = Word (unit_word unit) } ∷ v
 
 abbrev opened : Span → List Token → List Token
 opened s v = record { span = s; kind = Sym LeftParen } ∷ v
@@ -139,11 +143,13 @@ opened_tokens {unit = unit} w o =
     sym (ap (λ (z : List Token). cut_begun unit w.begins.span w.says.span z) o.same)
     ∙ cut_tokens w
 
-pub cut_read : {unit : CutUnit} {below : ℕ} {tokens v u r rest : List Token} {k number : ℤ} {c : Cut}
+pub cut_read : {unit : CutUnit} {below : ℕ} {tokens v u r rest : List Token} {k number : ℤ}
+    {c : Cut}
     → (inner : ℕ) → below ≡ suc inner → IsCutWord unit tokens v → IsNext (Sym LeftParen) v u
     → IsNext (Int k) u r → IsNext (Sym RightParen) r rest → number ≡ k → c ≡ cut_in unit number
     → HasCut below tokens rest (Some c)
-cut_read {unit = unit} {below = below} {tokens = tokens} {v = v} {u = u} {r = r} {rest = rest} {k = k} {number = number} {c = c} inner e w o n q is says =
+cut_read {unit = unit} {below = below} {tokens = tokens} {v = v} {u = u} {r = r} {rest = rest}
+    {k = k} {number = number} {c = c} inner e w o n q is says =
     subst (λ (z : Cut). HasCut below tokens rest (Some z))
     (sym (says ∙ ap (λ (z : ℤ). cut_in unit z) is))
     (subst (λ (b : ℕ). HasCut b tokens rest (Some (cut_in unit k))) (sym e)
@@ -239,10 +245,12 @@ cut_wordless {below = below} {tokens = tokens} {v = v} n h k e =
 pub weight_empty : {below : ℕ} {tokens v w : List Token} {span : Span}
     → IsInCall (codes "weight_string") below 2
     (rule.weight_string_call ∷ rule.empty_call ∷ rule.many_call ∷ []) [] tokens v
-    → IsClosed tokens v w span → IsCallRead below tokens w span (form.Call (codes "weight_string") [])
+    → IsClosed tokens v w span → IsCallRead below tokens w span
+    (form.Call (codes "weight_string") [])
 unfolding behind behind_at keyword_of is_intro is_called
 weight_empty p c =
-    in_closed (in_next {bs = rule.empty_call ∷ []} p c.next refl) c (λ s. refl) refl (λ e s t u. refl)
+    in_closed (in_next {bs = rule.empty_call ∷ []} p c.next refl) c (λ s. refl) refl
+    (λ e s t u. refl)
 
 pub weight_missed : {below : ℕ} {tokens v : List Token} {fault other : Fault}
     → IsInCall (codes "weight_string") below 2
@@ -277,27 +285,33 @@ pub weight_alone : {below : ℕ} {tokens v : List Token} {x : Operand}
     → IsInCall (codes "weight_string") below 3 (rule.weight_string_call ∷ rule.many_call ∷ [])
     (operand x ∷ []) tokens v
     → IsTrue (is_missing (mark Comma) v)
-    → IsInCall (codes "weight_string") below 3 (rule.weight_string_call ∷ []) (operand x ∷ []) tokens v
+    → IsInCall (codes "weight_string") below 3 (rule.weight_string_call ∷ [])
+    (operand x ∷ []) tokens v
 unfolding behind behind_at keyword_of is_intro is_called
 weight_alone p h = in_missing (mark Comma ∷ []) p (both_missing _ _ h refl) refl
 
-pub weight_read : {below : ℕ} {tokens v w u : List Token} {x : Operand} {cut : Option Cut} {span : Span}
+pub weight_read : {below : ℕ} {tokens v w u : List Token} {x : Operand} {cut : Option Cut}
+    {span : Span}
     → HasCut below v w cut → IsClosed tokens w u span
-    → IsInCall (codes "weight_string") below 3 (rule.weight_string_call ∷ []) (operand x ∷ []) tokens v
+    → IsInCall (codes "weight_string") below 3 (rule.weight_string_call ∷ [])
+    (operand x ∷ []) tokens v
     → IsCallRead below tokens u span (form.WeightString x.expr cut)
 unfolding behind behind_at keyword_of is_intro is_called
 weight_read o c p = in_closed (in_rule p o refl refl) c (λ s. refl) refl (λ e s t u. refl)
 
-pub weight_unclosed : {below : ℕ} {tokens v w : List Token} {x : Operand} {cut : Option Cut} {fault : Fault}
+pub weight_unclosed : {below : ℕ} {tokens v w : List Token} {x : Operand} {cut : Option Cut}
+    {fault : Fault}
     → HasCut below v w cut → IsUnclosed w fault
-    → IsInCall (codes "weight_string") below 3 (rule.weight_string_call ∷ []) (operand x ∷ []) tokens v
+    → IsInCall (codes "weight_string") below 3 (rule.weight_string_call ∷ [])
+    (operand x ∷ []) tokens v
     → IsCallFault below tokens fault
 unfolding behind behind_at keyword_of is_intro is_called
 weight_unclosed o u p = in_unclosed (in_rule p o refl refl) u refl
 
 pub weight_cut_missed : {below : ℕ} {tokens v : List Token} {x : Operand} {fault : Fault}
     → IsFault (behind rule.cut_option) rule.cut_option below v fault
-    → IsInCall (codes "weight_string") below 3 (rule.weight_string_call ∷ []) (operand x ∷ []) tokens v
+    → IsInCall (codes "weight_string") below 3 (rule.weight_string_call ∷ [])
+    (operand x ∷ []) tokens v
     → IsCallFault below tokens fault
 unfolding behind behind_at keyword_of is_intro is_called
 weight_cut_missed o p = in_fault p o refl refl

@@ -10,13 +10,15 @@ use Rattle.mc_sql.specs.Classes.{Class, word, name, is_lexeme_of}
 use Rattle.mc_sql.specs.Rules.{Rule, Alternative}
 use Rattle.mc_sql.specs.Statements.{statements}
 use Rattle.mc_sql.specs.Nest.{deeper}
-use Rattle.mc_sql.proofs.Tables.{tables, follows}
+use Rattle.mc_sql.specs.Follows.{follows}
+use Rattle.mc_sql.specs.Tables.{tables}
 use Rattle.mc_ast.specs.Meaning.{meaning}
 use Rattle.mc_ast.specs.Spans.{span_of}
 use Rattle.mc_ast.specs.Values.{Value, a_token}
 
 -- The language.
-abbrev pub language : Language (Admitted Class) (Roomed Rule) (Roomed Alternative) Token (Marked Token) Value
+abbrev pub language : Language (Admitted Class) (Roomed Rule) (Roomed Alternative) Token
+    (Marked Token) Value
 language =
     room_language statements tables deeper (λ token. a_token token)
     (λ a tokens values. meaning a (span_of tokens) values)

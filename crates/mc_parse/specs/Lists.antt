@@ -27,10 +27,3 @@ pub record IsListed (after : Ahead (Admitted Class)) (look : ℕ) (more : Rule) 
   pub listed : new ≡ old ++ exprs links
   pub whole : last ≡ span_from first done.front
   pub some : links ≡ [] → rest ≡ tokens
-
--- The same, wherever they stand.
-pub record IsAppended (after : Ahead (Admitted Class)) (look : ℕ) (more : Rule) (below : ℕ)
-    (tokens rest : List Token) (old new : List Expr) : Type 0 where
-  pub links : List Operand
-  pub done : Done language after look (at below more) tokens rest (operands links)
-  pub listed : new ≡ old ++ exprs links

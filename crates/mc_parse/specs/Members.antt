@@ -16,13 +16,15 @@ use Rattle.mc_parse.specs.Place.{is_missing, IsNext}
 use Rattle.mc_parse.specs.Read.{IsRead, IsFault}
 
 -- They are read, all of them in this list, and the parenthesis that closes stands at `end`.
-pub record IsMembers (below : ℕ) (tokens rest : List Token) (list : List Expr) (end : Span) : Type 0 where
+pub record IsMembers (below : ℕ) (tokens rest : List Token) (list : List Expr)
+    (end : Span) : Type 0 where
   pub x : Operand
   pub xs : List Operand
   pub behind_first : List Token
   pub behind_all : List Token
   pub first : IsRead (behind_at false or) 1 or below tokens behind_first (operand x) x.extent
-  pub more : Done language (behind more_ors) 1 (at below more_ors) behind_first behind_all (operands xs)
+  pub more : Done language (behind more_ors) 1 (at below more_ors) behind_first behind_all
+      (operands xs)
   pub close : IsNext (Sym RightParen) behind_all rest
   pub listed : list ≡ exprs (x ∷ xs)
   pub ends : end ≡ close.span

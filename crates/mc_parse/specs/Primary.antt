@@ -15,6 +15,11 @@ is_caller x =
     is_lexeme_of called x
     || (is_lexeme_of (word (codes "cast")) x || is_lexeme_of (word (codes "convert")) x)
 
+-- The word of a call is next.
+abbrev pub sees_caller : List Token → Bool
+sees_caller [] = false
+sees_caller (token ∷ tokens) = is_caller token.kind
+
 -- The word of a call is next, and its parenthesis.
 abbrev pub begins_call : List Token → Bool
 begins_call [] = false
@@ -42,4 +47,5 @@ abbrev pub IsMissingAt : List Token → List Token → Type 0
 IsMissingAt tokens rest =
     IsNext (Word (codes "mod")) tokens rest
     ⊎ (IsNext (Word (codes "convert")) tokens rest
-    ⊎ ((rest ≡ tokens) × IsTrue (are_missing (word (codes "mod") ∷ word (codes "convert") ∷ []) tokens)))
+    ⊎ ((rest ≡ tokens) × IsTrue
+    (are_missing (word (codes "mod") ∷ word (codes "convert") ∷ []) tokens)))

@@ -1,5 +1,6 @@
 -- Inside what is said of a sum: the alternative is known, and some of it is read.
-use Rattle.std.specs.Prelude.{◌≡◌, ◌⊎◌, ℕ, suc, ◌≤◌, Bool, true, false, List, [], ◌∷◌, length, codes}
+use Rattle.std.specs.Prelude.{◌≡◌, ◌⊎◌, ℕ, suc, ◌≤◌, Bool, true, false, List, [], ◌∷◌, length}
+use Rattle.std.specs.Prelude.{codes}
 use Rattle.mc_base.specs.declared.span.Span.{Span}
 use Rattle.mc_token.specs.declared.lexeme.Lexeme.TheVariants.{Sym}
 use Rattle.mc_token.specs.declared.lexeme.Symbol.TheVariants.{LeftParen, RightParen}
@@ -8,7 +9,8 @@ use Rattle.mc_grammar.specs.Grammar.{Symbol, one, rule}
 use Rattle.mc_grammar.specs.Places.{Inside}
 use Rattle.mc_grammar.specs.Room.{Roomed, Admitted, with_room}
 use Rattle.mc_sql.specs.Classes.{Class, word, mark}
-use Rattle.mc_sql.specs.Rules.{Rule, Alternative, pred, sum, or, more_ors, not_option, escape_option}
+use Rattle.mc_sql.specs.Rules.{Rule, Alternative, pred, sum, or, more_ors, not_option}
+use Rattle.mc_sql.specs.Rules.{escape_option}
 use Rattle.mc_sql.specs.Rules.{compared, tested_null, matched, listed, ranged}
 use Rattle.mc_ast.specs.declared.operators.CmpOp.{CmpOp}
 use Rattle.mc_ast.specs.Spans.{from_to, span_of}
@@ -37,7 +39,8 @@ pub record IsComparing (alias : Bool) (below : ℕ) (op : CmpOp) (tokens rest : 
       (operand (as_operand left) ∷ comparison op ∷ []) tokens rest left.extent last
 
 -- IS NULL, behind IS.
-pub record IsTesting (alias : Bool) (below : ℕ) (tokens rest : List Token) (left : Found) : Type 0 where
+pub record IsTesting (alias : Bool) (below : ℕ) (tokens rest : List Token)
+    (left : Found) : Type 0 where
   pub last : Span
   pub token : Token
   pub said : IsSaid alias below tested_null

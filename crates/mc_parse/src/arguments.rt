@@ -1,4 +1,4 @@
-//! Arguments of calls.
+//! Expressions behind commas, and the arguments of calls.
 
 ghost use Rattle.std.specs.Prelude.{◌≡◌, ℕ, false, [], ◌∷◌, List, IfOk, IfErr};
 ghost use Rattle.mc_ast.specs.Values.{operand as an_operand, Operand as Meant};
@@ -17,9 +17,9 @@ use mc_base::{List, Span};
 use mc_token::Symbol;
 use std::alloc::Global;
 
-/// One more member of a list, which is read.
+/// An expression, appended to a list.
 #[cycle(expr)]
-fn push_or<'a>(
+pub(crate) fn push_or<'a>(
     alloc: Global,
     below: usize,
     list: &mut List<Expr>,
@@ -39,7 +39,7 @@ fn push_or<'a>(
     }
 }
 
-/// {, or}: more members of a list.
+/// {, or}, appended to a list.
 #[cycle(expr)]
 pub(crate) fn more_ors<'a>(
     alloc: Global,

@@ -9,9 +9,10 @@ ghost use Rattle.mc_parse.specs.Read.{as_operand, IsFault, IsOperand};
 ghost use Rattle.mc_parse.specs.Calls.{IsInCall, IsCallRead, IsCallFault};
 ghost use Rattle.mc_parse.specs.Casts.{HasSet, cast_form};
 
+use crate::boxes::instead;
 use crate::call::closed;
 use crate::fault::Fault;
-use crate::operand::{Operand, instead, whole};
+use crate::operand::{Operand, whole};
 use crate::operators::name_or_binary;
 use crate::place::Place;
 use crate::predicate::or;
@@ -57,8 +58,8 @@ fn set_option<'a>(alloc: Global, place: Place<'a>) -> Result<(Option<Text>, Plac
     }
 }
 
-/// AS CHAR [CHARACTER SET (NAME | BINARY)] ) | AS BINARY ) behind the operand of CAST, and the bytes
-/// of the call.
+/// AS CHAR [CHARACTER SET (NAME | BINARY)] ) | AS BINARY ) behind the operand of CAST, and the
+/// bytes of the call.
 fn cast_target<'a>(
     alloc: Global,
     word: Place<'a>,

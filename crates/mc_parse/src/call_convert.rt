@@ -8,9 +8,10 @@ ghost use Rattle.mc_sql.specs.Rules as rule;
 ghost use Rattle.mc_parse.specs.Read.{as_operand, IsOperand};
 ghost use Rattle.mc_parse.specs.Calls.{IsInCall, IsCallRead, IsCallFault};
 
+use crate::boxes::instead;
 use crate::call::closed;
 use crate::fault::Fault;
-use crate::operand::{Operand, instead, whole};
+use crate::operand::{Operand, whole};
 use crate::operators::name_or_binary;
 use crate::place::Place;
 use crate::predicate::or;

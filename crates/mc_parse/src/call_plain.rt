@@ -11,9 +11,10 @@ ghost use Rattle.mc_parse.specs.Read.{as_operand, IsOperand};
 ghost use Rattle.mc_parse.specs.Calls.{IsInCall, IsCallRead, IsCallFault};
 
 use crate::arguments::more_args;
+use crate::boxes::instead;
 use crate::call::closed;
 use crate::fault::Fault;
-use crate::operand::{Operand, instead, whole};
+use crate::operand::{Operand, whole};
 use crate::place::Place;
 use crate::predicate::or;
 use mc_ast::{Expr, Form};
@@ -27,6 +28,15 @@ fn counted(alloc: Global, operand: Operand, span: Span) -> Result<Operand, NoMem
 {
     let expr = Boxed::new(alloc, operand.expr)?;
     Ok(whole(span, Form::CountDistinct(expr)))
+}
+
+/// A call without arguments, which stands at `span`.
+pub(crate) fn called_alone(alloc: Global, name: &[u8], span: Span) -> Result<Operand, NoMemory>
+    ensures { IfOk result (λ x. as_operand x ≡ whole span (form.Call name.now [])) }
+{
+    let args = List::new(alloc);
+    let name = Text::from_slice(alloc, name)?;
+    Ok(whole(span, Form::Call { name, args }))
 }
 
 /// The one argument of a call that stands at `span`.
@@ -119,9 +129,7 @@ pub(crate) fn plain<'a>(
     ensures err { IfErr result (λ fault. IsCallFault below word.entry.tokens.now fault) }
 {
     if let Ok((span, rest)) = closed(word, place) {
-        let args = List::new(alloc);
-        let name = Text::from_slice(alloc, name)?;
-        return Ok((whole(span, Form::Call { name, args }), rest));
+        return Ok((called_alone(alloc, name, span)?, rest));
     }
     match or(alloc, below, false, place) {
         Ok((operand, rest)) => match one_or_more(alloc, below, name, operand, word, rest) {

@@ -13,11 +13,11 @@ ghost use Rattle.mc_parse.specs.Read.{as_operand, IsFault, IsOperand};
 ghost use Rattle.mc_parse.specs.Calls.{IsInCall, IsCallRead, IsCallFault};
 ghost use Rattle.mc_parse.specs.Parts.{MayRead};
 
+use crate::boxes::{boxed_two, instead};
 use crate::call::closed;
-use crate::call_plain::one_or_more;
-use crate::call_trim::{called_alone, instead_of};
+use crate::call_plain::{called_alone, one_or_more};
 use crate::fault::Fault;
-use crate::operand::{Operand, instead, whole};
+use crate::operand::{Operand, whole};
 use crate::place::Place;
 use crate::predicate::or;
 use mc_ast::{Expr, Form};
@@ -36,9 +36,10 @@ fn part_of(
     ensures { IfOk result (λ x. as_operand x ≡
         whole span (form.SubstringFrom text.expr start.expr len)) }
 {
-    let expr = Boxed::new(alloc, text.expr)?;
-    let start = Boxed::new(alloc, start.expr)?;
-    Ok(whole(span, Form::SubstringFrom { expr, start, len }))
+    match boxed_two(alloc, text.expr, start.expr) {
+        Ok((expr, start)) => Ok(whole(span, Form::SubstringFrom { expr, start, len })),
+        Err(error) => Err(instead(len, error)),
+    }
 }
 
 /// [FOR or]
@@ -85,7 +86,7 @@ fn length<'a>(
     match length_option(alloc, below, place) {
         Ok((len, rest)) => match closed(word, rest) {
             Ok((span, rest)) => Ok((len, span, rest)),
-            Err(fault) => Err(instead_of(len, fault)),
+            Err(fault) => Err(instead(len, fault)),
         },
         Err(fault) => Err(fault),
     }

@@ -21,14 +21,15 @@ ghost use Rattle.mc_parse.specs.Read.{as_operand, IsFault, IsOperand};
 ghost use Rattle.mc_parse.specs.Calls.{IsInCall, IsCallRead, IsCallFault};
 ghost use Rattle.mc_parse.specs.Parts.{side_word, side_words, MayRead};
 
+use crate::boxes::{boxed_two, instead};
 use crate::call::closed;
-use crate::call_plain::one_or_more;
+use crate::call_plain::{called_alone, one_or_more};
 use crate::fault::Fault;
-use crate::operand::{Operand, instead, whole};
+use crate::operand::{Operand, whole};
 use crate::place::Place;
 use crate::predicate::or;
 use mc_ast::{Expr, Form, TrimSide};
-use mc_base::{Boxed, List, NoMemory, Span, Text};
+use mc_base::{Boxed, NoMemory, Span};
 use mc_token::Keyword;
 use std::alloc::Global;
 
@@ -42,15 +43,17 @@ fn trimmed(
 ) -> Result<Operand, NoMemory>
     ensures { IfOk result (λ x. as_operand x ≡ whole span (form.Trim side removed text.expr)) }
 {
-    let text = Boxed::new(alloc, text.expr)?;
-    Ok(whole(
-        span,
-        Form::Trim {
-            side,
-            removed,
-            text,
-        },
-    ))
+    match Boxed::new(alloc, text.expr) {
+        Ok(text) => {
+            let form = Form::Trim {
+                side,
+                removed,
+                text,
+            };
+            Ok(whole(span, form))
+        }
+        Err(error) => Err(instead(removed, error)),
+    }
 }
 
 /// A text from both sides of which an operand is removed, as a call that stands at `span`.
@@ -63,27 +66,13 @@ fn trimmed_of(
     ensures { IfOk result (λ x. as_operand x ≡
         whole span (form.Trim side.Both (Some removed.expr) text.expr)) }
 {
-    let removed = Boxed::new(alloc, removed.expr)?;
-    match trimmed(alloc, TrimSide::Both, Some(removed), text, span) {
-        Ok(operand) => Ok(operand),
-        Err(error) => Err(error),
-    }
-}
-
-/// A call without arguments, which stands at `span`.
-pub(crate) fn called_alone(alloc: Global, name: &[u8], span: Span) -> Result<Operand, NoMemory>
-    ensures { IfOk result (λ x. as_operand x ≡ whole span (form.Call name.now [])) }
-{
-    let args = List::new(alloc);
-    let name = Text::from_slice(alloc, name)?;
-    Ok(whole(span, Form::Call { name, args }))
-}
-
-/// Lets what may be read go for the fault in its place.
-pub(crate) fn instead_of(_found: Option<Boxed<Expr>>, fault: Fault) -> Fault
-    ensures { result ≡ fault }
-{
-    fault
+    let (removed, text) = boxed_two(alloc, removed.expr, text.expr)?;
+    let form = Form::Trim {
+        side: TrimSide::Both,
+        removed: Some(removed),
+        text,
+    };
+    Ok(whole(span, form))
 }
 
 /// BOTH | LEADING | TRAILING, if one is next, and the place behind it.
@@ -182,7 +171,7 @@ fn trim_side<'a>(
     match or_option(alloc, below, place) {
         Ok((removed, rest)) => match from_text(alloc, below, word, rest) {
             Ok((text, span, rest)) => Ok((trimmed(alloc, side, removed, text, span)?, rest)),
-            Err(fault) => Err(instead_of(removed, fault)),
+            Err(fault) => Err(instead(removed, fault)),
         },
         Err(fault) => Err(fault),
     }

@@ -10,14 +10,15 @@ ghost use Rattle.mc_parse.specs.Read.{as_operand, IsFault, IsOperand};
 ghost use Rattle.mc_parse.specs.Calls.{IsInCall, IsCallRead, IsCallFault};
 ghost use Rattle.mc_parse.specs.Cuts.{cut_in, IsCutWord, HasCut};
 
+use crate::boxes::instead;
 use crate::call::closed;
-use crate::call_plain::many;
+use crate::call_plain::{called_alone, many};
 use crate::fault::Fault;
-use crate::operand::{Operand, instead, whole};
+use crate::operand::{Operand, whole};
 use crate::place::Place;
 use crate::predicate::or;
 use mc_ast::{Cut, Form};
-use mc_base::{Boxed, List, NoMemory, Span, Text};
+use mc_base::{Boxed, NoMemory, Span};
 use mc_token::{Keyword, Symbol};
 use std::alloc::Global;
 
@@ -70,11 +71,11 @@ fn sized<'a>(
     if below == 0 {
         return Err(Fault::TooDeep(place.left()));
     }
-    let Some(behind) = inside.int() else {
+    let Some((number, behind)) = inside.int() else {
         return Err(Fault::NoReading(inside.left()));
     };
     match behind.mark(Symbol::RightParen) {
-        Some(rest) => Ok((cut_of(unit, inside.number()), rest)),
+        Some(rest) => Ok((cut_of(unit, number), rest)),
         None => Err(Fault::NoReading(behind.left())),
     }
 }
@@ -174,9 +175,7 @@ pub(crate) fn weight_string<'a>(
     ensures err { IfErr result (λ fault. IsCallFault below word.entry.tokens.now fault) }
 {
     if let Ok((span, rest)) = closed(word, place) {
-        let args = List::new(alloc);
-        let name = Text::from_slice(alloc, b"weight_string")?;
-        return Ok((whole(span, Form::Call { name, args }), rest));
+        return Ok((called_alone(alloc, b"weight_string", span)?, rest));
     }
     match or(alloc, below, false, place) {
         Ok((operand, rest)) => match cut_or_many(alloc, below, operand, word, rest) {

@@ -12,10 +12,10 @@ ghost use Rattle.mc_parse.specs.Place.{are_missing, IsNext};
 ghost use Rattle.mc_parse.specs.Read.{IsFault, IsOperand, IsOperandAt};
 ghost use Rattle.mc_parse.specs.Said.{IsComparing, IsTesting};
 
-use crate::build::{compare, is_null};
+use crate::boxes::instead;
 use crate::fault::Fault;
 use crate::matching::{listed, matched, ranged};
-use crate::operand::{Operand, instead};
+use crate::operand::{Operand, compare, is_null};
 use crate::operators::sum;
 use crate::place::Place;
 use mc_ast::CmpOp;

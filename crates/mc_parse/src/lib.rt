@@ -1,18 +1,19 @@
-//! The parser: the tree of a list of tokens, or the first token at which the tokens have no reading,
-//! or stand too deep.
+//! The parser: the tree of a list of tokens, or the first token at which the tokens have no
+//! reading, or stand too deep.
 //!
 //! It is a descent by looking ahead, one small function for each rule of the grammar of `mc_sql`:
 //! Aho, Lam, Sethi and Ullman, Compilers, 4.4. `place` is where it stands and what it sees there,
-//! `fault` where it stops. `operators`, `predicate`, `primary` and `call` read expressions, `clauses`
-//! and `statement` the rest; [`parse`] is the one call. What comes of a list of tokens is stated in
-//! `specs/Outcome` and, case by case, in `Parsed` of `mc_ast`; [`outcomes_are_unique`] is the law
-//! that it is one thing.
+//! `fault` where it stops. `operand` and `boxes` make the trees. `operators`, `predicate`,
+//! `comparison`, `primary` and `call` read expressions, `clauses` and the `clause_` files
+//! those of a `statement`; [`parse`] is the one call. What comes of a list of tokens is
+//! stated in `specs/Outcome` and, case by case, in `Parsed` of `mc_ast`; [`outcomes_are_unique`] is
+//! the law that it is one thing.
 //!
 //! The definitions are in `specs/`, in the order of its `Lib.antt`.
 #![tactic(auto)]
 
 mod arguments;
-mod build;
+mod boxes;
 mod call;
 mod call_cast;
 mod call_convert;
@@ -20,6 +21,10 @@ mod call_plain;
 mod call_substring;
 mod call_trim;
 mod call_weight;
+mod clause_from;
+mod clause_items;
+mod clause_limit;
+mod clause_order;
 mod clauses;
 mod comparison;
 mod fault;

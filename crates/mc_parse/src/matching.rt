@@ -8,10 +8,10 @@ ghost use Rattle.mc_parse.specs.Language.{behind_at, look_at};
 ghost use Rattle.mc_parse.specs.Read.{IsFault, IsOperandAt, IsPut};
 ghost use Rattle.mc_parse.specs.Said.{IsMatching, IsEscaping, IsListing, IsRanging};
 
-use crate::build::{between, like, member};
+use crate::boxes::{instead, instead_of_two};
 use crate::fault::Fault;
 use crate::members::members;
-use crate::operand::{Operand, from_to, instead, instead_of_two};
+use crate::operand::{Operand, between, from_to, like, member};
 use crate::operators::sum;
 use crate::place::Place;
 use mc_base::{Span, Text};
@@ -66,8 +66,8 @@ fn escaped<'a>(
     }
 }
 
-/// [ESCAPE Str] behind a pattern: its text, and the bytes of the pattern and of the clause. Where an
-/// alias may follow, the word without a string behind it is left for a name.
+/// [ESCAPE Str] behind a pattern: its text, and the bytes of the pattern and of the clause. Where
+/// an alias may follow, the word without a string behind it is left for a name.
 fn escape_option<'a>(
     alloc: Global,
     alias: bool,

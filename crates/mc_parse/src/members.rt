@@ -1,15 +1,11 @@
-//! Expressions with commas between them.
+//! Expressions in parentheses, with commas between them.
 
 ghost use Rattle.std.specs.Prelude.{◌≡◌, [], IfOk, IfErr};
-ghost use Rattle.mc_sql.specs.Rules as rule;
-ghost use Rattle.mc_parse.specs.Language.{behind};
-ghost use Rattle.mc_parse.specs.Lists.{IsAppended};
 ghost use Rattle.mc_parse.specs.Members.{IsMembers, IsNoMembers};
-ghost use Rattle.mc_parse.specs.Read.{IsFault};
 
+use crate::arguments::{more_ors, push_or};
 use crate::fault::Fault;
 use crate::place::Place;
-use crate::predicate::or;
 use mc_ast::Expr;
 use mc_base::{List, Span};
 use mc_token::Symbol;
@@ -47,43 +43,14 @@ fn push_members<'a>(
         list.new found.0) }
     ensures err { IfErr result (λ fault. IsNoMembers below place.entry.tokens.now fault) }
 {
-    match or(alloc, below, false, place) {
-        Ok((first, rest)) => {
-            list.push(first.expr)?;
-            match push_ors(alloc, below, list, rest) {
-                Ok(rest) => match rest.mark(Symbol::RightParen) {
-                    Some(behind) => Ok((rest.span(), behind)),
-                    None => Err(Fault::NoReading(rest.left())),
-                },
-                Err(fault) => Err(fault),
-            }
-        }
+    match push_or(alloc, below, list, place) {
+        Ok(rest) => match more_ors(alloc, below, list, rest) {
+            Ok(rest) => match rest.mark(Symbol::RightParen) {
+                Some(behind) => Ok((rest.span(), behind)),
+                None => Err(Fault::NoReading(rest.left())),
+            },
+            Err(fault) => Err(fault),
+        },
         Err(fault) => Err(fault),
     }
-}
-
-/// {, or}, appended to a list.
-#[cycle(expr)]
-pub(crate) fn push_ors<'a>(
-    alloc: Global,
-    below: usize,
-    list: &mut List<Expr>,
-    place: Place<'a>,
-) -> Result<Place<'a>, Fault>
-    ensures ok { IfOk result (λ rest. IsAppended (behind rule.more_ors) 1 rule.more_ors below
-        place.entry.tokens.now rest.tokens.now list.old list.new) }
-    ensures err { IfErr result (λ fault. IsFault (behind rule.more_ors) rule.more_ors below
-        place.entry.tokens.now fault) }
-{
-    let mut place = place;
-    while let Some(behind) = place.mark(Symbol::Comma) {
-        match or(alloc, below, false, behind) {
-            Ok((operand, rest)) => {
-                list.push(operand.expr)?;
-                place = rest;
-            }
-            Err(fault) => return Err(fault),
-        }
-    }
-    Ok(place)
 }

@@ -1,37 +1,42 @@
 //! What an operand begins with, by two tokens.
 
-ghost use Rattle.std.specs.Prelude.{◌≡◌, not};
-ghost use Rattle.mc_token.specs.declared.lexeme.Symbol.TheVariants as sign;
-ghost use Rattle.mc_sql.specs.Classes as class;
-ghost use Rattle.mc_parse.specs.Place.{is_missing};
-ghost use Rattle.mc_parse.specs.Primary.{begins_call, begins_text, begins_string, IsMissingAt};
+ghost use Rattle.std.specs.Prelude.{◌≡◌};
+ghost use Rattle.mc_parse.specs.Primary.{
+  sees_caller,
+  begins_call,
+  begins_text,
+  begins_string,
+  IsMissingAt,
+};
 
 use crate::place::Place;
-use mc_token::{Keyword, Symbol};
+use mc_token::Keyword;
 
-/// Whether a parenthesis that opens is next.
-fn opens(place: Place<'_>) -> bool
-    ensures { result ≡ not (is_missing (class.mark sign.LeftParen) place.entry.tokens.now) }
-{
-    match place.mark(Symbol::LeftParen) {
-        Some(_) => true,
-        None => false,
-    }
-}
-
-/// Whether the word of a call is next, and its parenthesis.
-pub(crate) fn begins_call(place: Place<'_>) -> bool
-    ensures { result ≡ begins_call place.entry.tokens.now }
+/// Whether the word of a call is next.
+fn sees_caller(place: Place<'_>) -> bool
+    ensures { result ≡ sees_caller place.entry.tokens.now }
 {
     match place.called() {
-        Some((_, behind)) => opens(behind),
+        Some(_) => true,
         None => match place.keyword(Keyword::Cast) {
-            Some(behind) => opens(behind),
+            Some(_) => true,
             None => match place.keyword(Keyword::Convert) {
-                Some(behind) => opens(behind),
+                Some(_) => true,
                 None => false,
             },
         },
+    }
+}
+
+/// Whether the word of a call is next, and its parenthesis. Most operands have none behind them,
+/// and are told by that alone.
+pub(crate) fn begins_call(place: Place<'_>) -> bool
+    ensures { result ≡ begins_call place.entry.tokens.now }
+{
+    if place.opens_behind() {
+        sees_caller(place)
+    } else {
+        false
     }
 }
 

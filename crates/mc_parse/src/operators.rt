@@ -9,8 +9,9 @@ ghost use Rattle.mc_parse.specs.Read.{as_operand, IsRead, IsFault, IsOperand, Is
 ghost use Rattle.mc_parse.specs.Place.{are_missing};
 ghost use Rattle.mc_parse.specs.Signs.{factor_signs, summand_signs, IsFactorSign, IsSummandSign};
 
+use crate::boxes::instead;
 use crate::fault::Fault;
-use crate::operand::{Operand, arith, collated, instead, negative};
+use crate::operand::{Operand, arith, collated, negative};
 use crate::place::Place;
 use crate::primary::prim;
 use mc_ast::ArithOp;

@@ -7,6 +7,7 @@ ghost use Rattle.mc_parse.specs.Clauses.{IsClause, IsClauseFault};
 ghost use Rattle.mc_parse.specs.Outcome.{IsParsed};
 
 use crate::ParseFault;
+use crate::boxes::instead;
 use crate::fault::Fault;
 use crate::place::Place;
 use crate::statement::statement;
@@ -39,12 +40,13 @@ fn whole(tree: Statement, rest: Place<'_>) -> Result<Statement, ParseFault>
     if rest.left() == 0 {
         Ok(tree)
     } else {
-        Err(ParseFault::NoReading(rest.span().start))
+        let fault = ParseFault::NoReading(rest.span().start);
+        Err(instead(tree, fault))
     }
 }
 
 /// The fault, with the byte of its place.
-#[tactic(auto, using(crate::proofs::Parsed::stuck_left, crate::proofs::Parsed::deep_left, crate::proofs::Parsed::stuck_at, crate::proofs::Parsed::deep_at))]
+#[tactic(auto, using(crate::proofs::Parsed::placed_ways))]
 fn placed(fault: Fault, tokens: &[Token], end: u32) -> ParseFault
     requires { IsClauseFault rule.statement tokens.now fault }
     ensures { IsParsed tokens.now end (Err result) }

@@ -1,6 +1,8 @@
-ghost use Rattle.std.specs.Prelude.{◌≡◌, length, drop, IsTrue, MatchOption};
+ghost use Rattle.std.specs.Prelude.{◌≡◌, not, length, drop, IsTrue, MatchOption};
 ghost use Rattle.mc_token.specs.Keywords.{keyword_text};
 ghost use Rattle.mc_token.specs.declared.lexeme.Lexeme.TheVariants as lexeme;
+ghost use Rattle.mc_token.specs.declared.lexeme.Symbol.TheVariants as sign;
+ghost use Rattle.mc_sql.specs.Classes.{is_lexeme_of};
 ghost use Rattle.mc_sql.specs.Classes as class;
 ghost use Rattle.mc_ast.specs.Values.{lexeme_text, lexeme_number};
 ghost use Rattle.mc_parse.specs.Place.{
@@ -66,7 +68,7 @@ impl<'a> Place<'a> {
     }
 
     /// The place behind this word, if it is next.
-    #[tactic(auto, using(crate::proofs::TokenKinds::keyword_next, crate::proofs::TokenKinds::keyword_missing))]
+    #[tactic(auto, using(crate::proofs::TokenKinds::keyword_ways))]
     pub(crate) fn keyword(self, keyword: Keyword) -> Option<Place<'a>>
         ensures { MatchOption result
             (IsTrue (is_missing (class.word (keyword_text keyword)) self.entry.tokens.now))
@@ -81,7 +83,7 @@ impl<'a> Place<'a> {
     }
 
     /// The place behind this mark, if it is next.
-    #[tactic(auto, using(crate::proofs::TokenKinds::mark_next, crate::proofs::TokenKinds::mark_missing))]
+    #[tactic(auto, using(crate::proofs::TokenKinds::mark_ways))]
     pub(crate) fn mark(self, symbol: Symbol) -> Option<Place<'a>>
         ensures { MatchOption result
             (IsTrue (is_missing (class.mark symbol) self.entry.tokens.now))
@@ -105,7 +107,7 @@ impl<'a> Place<'a> {
     }
 
     /// The number of the next token, or 0.
-    pub(crate) fn number(self) -> i64
+    fn number(self) -> i64
         ensures { result ≡ number_at self.entry.tokens.now }
     {
         match self.tokens {
@@ -115,7 +117,7 @@ impl<'a> Place<'a> {
     }
 
     /// A name, if it is next, and the place behind it.
-    #[tactic(auto, using(crate::proofs::TokenKinds::name_next, crate::proofs::TokenKinds::name_missing))]
+    #[tactic(auto, using(crate::proofs::TokenKinds::name_ways))]
     pub(crate) fn name(self) -> Option<(&'a [u8], Place<'a>)>
         ensures { MatchOption result (IsTrue (is_missing class.name self.entry.tokens.now))
             (λ found. IsTextOf class.name self.entry.tokens.now found.1.tokens.now found.0.now) }
@@ -127,22 +129,32 @@ impl<'a> Place<'a> {
         }
     }
 
-    /// The place behind a number, if it is next.
-    #[tactic(auto, using(crate::proofs::TokenKinds::int_next, crate::proofs::TokenKinds::int_missing))]
-    pub(crate) fn int(self) -> Option<Place<'a>>
+    /// A number, if it is next, and the place behind it.
+    #[tactic(auto, using(crate::proofs::TokenKinds::int_ways))]
+    pub(crate) fn int(self) -> Option<(i64, Place<'a>)>
         ensures { MatchOption result (IsTrue (is_missing class.int self.entry.tokens.now))
-            (λ place. IsNext (lexeme.Int (number_at self.entry.tokens.now)) self.entry.tokens.now
-            place.tokens.now) }
+            (λ found. IsNext (lexeme.Int found.0) self.entry.tokens.now found.1.tokens.now) }
     {
         if self.kind == Some(TokenKind::Int) {
-            Some(self.behind())
+            Some((self.number(), self.behind()))
         } else {
             None
         }
     }
 
+    /// Whether a parenthesis that opens stands behind the next token, whose kind isn't told for it.
+    pub(crate) fn opens_behind(self) -> bool
+        ensures { result ≡ not (is_missing (class.mark sign.LeftParen)
+            (drop 1 self.entry.tokens.now)) }
+    {
+        match self.tokens {
+            [_, next, ..] => is_open(&next.kind),
+            _ => false,
+        }
+    }
+
     /// A string, if it is next, and the place behind it.
-    #[tactic(auto, using(crate::proofs::TokenKinds::str_next, crate::proofs::TokenKinds::str_missing))]
+    #[tactic(auto, using(crate::proofs::TokenKinds::str_ways))]
     pub(crate) fn str(self) -> Option<(&'a [u8], Place<'a>)>
         ensures { MatchOption result (IsTrue (is_missing class.str self.entry.tokens.now))
             (λ found. IsNext (lexeme.Str found.0.now) self.entry.tokens.now found.1.tokens.now) }
@@ -163,6 +175,16 @@ fn kind_at(tokens: &[Token]) -> Option<TokenKind>
     match tokens {
         [next, ..] => Some(kind_of(&next.kind)),
         [] => None,
+    }
+}
+
+/// Whether a lexeme is a parenthesis that opens.
+fn is_open(lexeme: &Lexeme) -> bool
+    ensures { result ≡ is_lexeme_of (class.mark sign.LeftParen) lexeme.now }
+{
+    match lexeme {
+        Lexeme::Sym(Symbol::LeftParen) => true,
+        _ => false,
     }
 }
 
@@ -205,7 +227,7 @@ fn number_of(lexeme: &Lexeme) -> i64
 
 impl<'a> Place<'a> {
     /// A string with `N` before it, if it is next, and the place behind it.
-    #[tactic(auto, using(crate::proofs::CallKinds::national_next, crate::proofs::CallKinds::national_missing))]
+    #[tactic(auto, using(crate::proofs::CallKinds::national_ways))]
     pub(crate) fn national(self) -> Option<(&'a [u8], Place<'a>)>
         ensures { MatchOption result (IsTrue (is_missing class.national self.entry.tokens.now))
             (λ found. IsNext (lexeme.National found.0.now) self.entry.tokens.now
@@ -219,7 +241,7 @@ impl<'a> Place<'a> {
     }
 
     /// The bytes of a hexadecimal literal, if it is next, and the place behind it.
-    #[tactic(auto, using(crate::proofs::CallKinds::hex_next, crate::proofs::CallKinds::hex_missing))]
+    #[tactic(auto, using(crate::proofs::CallKinds::hex_ways))]
     pub(crate) fn hex(self) -> Option<(&'a [u8], Place<'a>)>
         ensures { MatchOption result (IsTrue (is_missing class.hex self.entry.tokens.now))
             (λ found. IsNext (lexeme.Hex found.0.now) self.entry.tokens.now found.1.tokens.now) }
@@ -232,7 +254,7 @@ impl<'a> Place<'a> {
     }
 
     /// An introducer with its `_`, if it is next, and the place behind it.
-    #[tactic(auto, using(crate::proofs::CallKinds::intro_next, crate::proofs::CallKinds::intro_missing))]
+    #[tactic(auto, using(crate::proofs::CallKinds::intro_ways))]
     pub(crate) fn intro(self) -> Option<(&'a [u8], Place<'a>)>
         ensures { MatchOption result (IsTrue (is_missing class.intro self.entry.tokens.now))
             (λ found. IsTextOf class.intro self.entry.tokens.now found.1.tokens.now found.0.now) }
@@ -245,7 +267,7 @@ impl<'a> Place<'a> {
     }
 
     /// The word of a call with its arguments alone, if it is next, and the place behind it.
-    #[tactic(auto, using(crate::proofs::CallKinds::called_next, crate::proofs::CallKinds::called_missing))]
+    #[tactic(auto, using(crate::proofs::CallKinds::called_ways))]
     pub(crate) fn called(self) -> Option<(&'a [u8], Place<'a>)>
         ensures { MatchOption result (IsTrue (is_missing class.called self.entry.tokens.now))
             (λ found. IsTextOf class.called self.entry.tokens.now found.1.tokens.now found.0.now) }

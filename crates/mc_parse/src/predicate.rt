@@ -1,5 +1,9 @@
-//! The operators on truth, from OR to NOT, one function for each rule. An alias may follow an
-//! item's expression: `alias` says whether one may, outside parentheses.
+//! The operators on truth, from OR to NOT, one function for each rule.
+//!
+//! Each function of an expression is given `below`: how many parentheses, NOT and unary minus may
+//! still open around what it reads. It starts at the limit of the nest, and the token that would
+//! open one more is too deep. An alias may follow an item's expression: `alias` says whether one may,
+//! outside parentheses.
 
 ghost use Rattle.std.specs.Prelude.{not, codes, IsTrue, IfOk, IfErr};
 ghost use Rattle.mc_ast.specs.Grouping.{grouped_xor};
@@ -12,9 +16,10 @@ ghost use Rattle.mc_parse.specs.Lists.{joined, IsListed};
 ghost use Rattle.mc_parse.specs.Place.{is_missing};
 ghost use Rattle.mc_parse.specs.Read.{as_operand, IsFault, IsFolded, IsOperandAt};
 
+use crate::boxes::instead;
 use crate::comparison::pred;
 use crate::fault::Fault;
-use crate::operand::{Operand, from_to, instead, opposite, whole, xored};
+use crate::operand::{Operand, from_to, opposite, whole, xored};
 use crate::place::Place;
 use mc_ast::{Expr, Form};
 use mc_base::{List, Span};

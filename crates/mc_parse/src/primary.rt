@@ -10,10 +10,11 @@ ghost use Rattle.mc_parse.specs.Place.{is_missing, are_missing, IsNext};
 ghost use Rattle.mc_parse.specs.Primary as spec;
 ghost use Rattle.mc_parse.specs.Read.{as_operand, IsFault, IsOperand};
 
+use crate::boxes::instead;
 use crate::call::call;
 use crate::fault::Fault;
 use crate::opening::{begins_call, begins_string, missing_at};
-use crate::operand::{Operand, from_to, instead, whole};
+use crate::operand::{Operand, from_to, whole};
 use crate::place::Place;
 use crate::predicate::or;
 use crate::strings::string;
@@ -121,8 +122,8 @@ fn literal<'a>(place: Place<'a>) -> Option<(Operand, Place<'a>)>
         (λ found. (below : ℕ) → IsOperand rule.prim below place.entry.tokens.now
         found.1.tokens.now found.0) }
 {
-    if let Some(rest) = place.int() {
-        return Some((whole(place.span(), Form::Int(place.number())), rest));
+    if let Some((number, rest)) = place.int() {
+        return Some((whole(place.span(), Form::Int(number)), rest));
     }
     if let Some(rest) = place.keyword(Keyword::True) {
         return Some((whole(place.span(), Form::True), rest));

@@ -13,10 +13,12 @@ ghost use Rattle.mc_parse.specs.Clauses.{
   blank,
 };
 
-use crate::clauses::{
-    distinct_option, explain_option, limit_option, more_items, order_option, push_item,
-    source_option,
-};
+use crate::boxes::instead;
+use crate::clause_from::source_option;
+use crate::clause_items::{more_items, push_item};
+use crate::clause_limit::limit_option;
+use crate::clause_order::order_option;
+use crate::clauses::{distinct_option, explain_option};
 use crate::fault::Fault;
 use crate::place::Place;
 use mc_ast::Statement;
@@ -42,7 +44,7 @@ fn blank(alloc: Global, explain: bool, distinct: bool) -> Statement
 }
 
 /// What stands behind the `*` or the first item.
-#[tactic(auto, using(crate::proofs::Statements::clauses_read, crate::proofs::Statements::items_fault, crate::proofs::Statements::source_fault, crate::proofs::Statements::orders_fault, crate::proofs::Statements::limit_fault))]
+#[tactic(auto, using(crate::proofs::Statements::clauses_ways))]
 fn clauses<'a>(
     alloc: Global,
     star: bool,
@@ -62,7 +64,7 @@ fn clauses<'a>(
 }
 
 /// `*` or an item, and all behind it.
-#[tactic(auto, using(crate::proofs::Statements::star_read, crate::proofs::Statements::star_fault, crate::proofs::Statements::items_read, crate::proofs::Statements::item_missed, crate::proofs::Statements::items_missed))]
+#[tactic(auto, using(crate::proofs::Statements::items_ways))]
 fn items<'a>(alloc: Global, place: Place<'a>, tree: &mut Statement) -> Result<Place<'a>, Fault>
     ensures ok { IfOk result (λ rest. ReadsItems place.entry.tokens.now rest.tokens.now tree.old
         tree.new) }
@@ -87,7 +89,7 @@ fn items<'a>(alloc: Global, place: Place<'a>, tree: &mut Statement) -> Result<Pl
 }
 
 /// [EXPLAIN] SELECT [DISTINCT] and all behind it.
-#[tactic(auto, using(crate::proofs::Statements::select_missed, crate::proofs::Statements::statement_read, crate::proofs::Statements::statement_fault))]
+#[tactic(auto, using(crate::proofs::Statements::statement_ways))]
 pub(crate) fn statement<'a>(
     alloc: Global,
     place: Place<'a>,
@@ -105,6 +107,6 @@ pub(crate) fn statement<'a>(
     let mut tree = blank(alloc, explain, distinct);
     match items(alloc, behind, &mut tree) {
         Ok(rest) => Ok((tree, rest)),
-        Err(fault) => Err(fault),
+        Err(fault) => Err(instead(tree, fault)),
     }
 }

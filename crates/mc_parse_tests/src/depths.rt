@@ -110,6 +110,34 @@ const DEEP: [Deep; 16] = [
     },
 ];
 
+/// Chains, whose trees are deeper than the descent, and the deepest descent.
+const CHAINS: [Deep; 4] = [
+    Deep {
+        texts: [("1 XOR ", 1023), ("1", 1)],
+        behind: "",
+        comes: Comes::Tree,
+        why: "a chain of XOR of 2,047 tokens",
+    },
+    Deep {
+        texts: [("a", 1), (" COLLATE b", 1023)],
+        behind: "",
+        comes: Comes::Tree,
+        why: "a chain of COLLATE of 2,048 tokens, SELECT included",
+    },
+    Deep {
+        texts: [("1 OR 1 XOR 1 AND 1 IN (1, ", 64), ("1", 1)],
+        behind: "))))))))))))))))))))))))))))))))))))))))))))))))))))))))))))))))",
+        comes: Comes::Tree,
+        why: "64 lists, each behind all operators on truth",
+    },
+    Deep {
+        texts: [("1 OR 1 XOR 1 AND 1 IN (1, ", 65), ("1", 1)],
+        behind: ")))))))))))))))))))))))))))))))))))))))))))))))))))))))))))))))))",
+        comes: Comes::TooDeep(1693),
+        why: "the parenthesis of the 65th list",
+    },
+];
+
 /// Appends a text so many times.
 fn repeat(script: &mut Text, text: &str, times: usize) -> Result<(), NoMemory> {
     for _ in 0..times {
@@ -138,6 +166,13 @@ fn comes_so(alloc: Global, row: &Deep) -> bool {
 #[test]
 fn levels_and_tokens_are_limited(rt: HostRuntime) {
     for row in &DEEP {
+        assert!(rt; comes_so(rt.alloc(), row), "{}", row.why);
+    }
+}
+
+#[test]
+fn chains_are_read_and_dropped(rt: HostRuntime) {
+    for row in &CHAINS {
         assert!(rt; comes_so(rt.alloc(), row), "{}", row.why);
     }
 }

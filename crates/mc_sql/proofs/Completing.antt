@@ -19,7 +19,7 @@ use Rattle.mc_sql.specs.Rules.{Rule, Alternative}
 use Rattle.mc_sql.specs.Statements.{statements}
 use Rattle.mc_sql.specs.Nest.{deeper}
 use Rattle.mc_sql.specs.Completions.{lexeme_of, completions}
-use Rattle.mc_sql.proofs.Tables.{tables}
+use Rattle.mc_sql.specs.Tables.{tables}
 use Rattle.mc_sql.proofs.Numbers.{rules, of_each}
 use Rattle.std.proofs.lemmas.Slice.Eq.{bytes_eq-Decides}
 

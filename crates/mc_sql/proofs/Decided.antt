@@ -6,7 +6,7 @@ use Rattle.mc_sql.specs.Rules.{Rule, alternatives}
 use Rattle.mc_token.specs.Keywords.{keyword_of}
 use Rattle.mc_sql.specs.Classes.{is_intro, is_called}
 use Rattle.mc_sql.specs.Statements.{statements}
-use Rattle.mc_sql.proofs.Tables.{tables}
+use Rattle.mc_sql.specs.Tables.{tables}
 use Rattle.mc_sql.proofs.Numbers.{rules, of_each}
 
 each_covered : IsTrue

@@ -1,5 +1,3 @@
-pub mod Apart
-pub mod Tables
 pub mod Numbers
 pub mod Spellings
 pub mod Decided

@@ -10,7 +10,7 @@ use Rattle.mc_sql.specs.Rules.{and, more_nots, not, pred, not_option, escape_opt
 use Rattle.mc_sql.specs.Rules.{more_prods, prod, more_negs, neg, coll, more_collates}
 use Rattle.mc_sql.specs.Rules.{name_or_binary, prim, string, more_strs, call, set_option, side}
 use Rattle.mc_sql.specs.Rules.{or_option, length_option, cut_option}
-use Rattle.mc_sql.proofs.Tables.{number_of}
+use Rattle.mc_sql.specs.Tables.{number_of}
 
 -- The rules in the order of their numbers.
 abbrev pub rules : List Rule

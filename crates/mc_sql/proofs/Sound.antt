@@ -19,8 +19,9 @@ use Rattle.mc_sql.specs.Classes.{Class, word, mark, name, called, called_otherwi
 use Rattle.mc_sql.specs.Classes.{national, hex, is_reserved, is_intro, is_called, is_lexeme_of}
 use Rattle.mc_sql.specs.Rules.{Rule, statement}
 use Rattle.mc_sql.specs.Statements.{statements}
-use Rattle.mc_sql.proofs.Apart.{are_apart, is_within}
-use Rattle.mc_sql.proofs.Tables.{tables, behind, behind_call, behind_name, number_of}
+use Rattle.mc_sql.specs.Apart.{are_apart, is_within}
+use Rattle.mc_sql.specs.Behind.{behind, behind_call, behind_name}
+use Rattle.mc_sql.specs.Tables.{tables, number_of}
 use Rattle.mc_sql.proofs.Numbers.{rule_of, rule_of-number}
 use Rattle.mc_sql.proofs.Spellings.{spelled, spelled-spelling}
 use Rattle.mc_sql.proofs.Decided.{covered, distinct}

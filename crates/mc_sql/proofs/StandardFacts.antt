@@ -25,7 +25,7 @@ use Rattle.mc_sql.specs.Rules.{escape_option}
 use Rattle.mc_sql.specs.Statements.{statements}
 use Rattle.mc_sql.specs.Nest.{deeper}
 use Rattle.mc_sql.specs.Completions.{completions}
-use Rattle.mc_sql.proofs.Tables.{tables}
+use Rattle.mc_sql.specs.Tables.{tables}
 use Rattle.mc_sql.proofs.Sound.{covers}
 use Rattle.mc_sql.proofs.Completing.{completed}
 

@@ -3,3 +3,8 @@ pub mod Rules
 pub mod Statements
 pub mod Nest
 pub mod Completions
+pub mod Apart
+pub mod Begins
+pub mod Follows
+pub mod Behind
+pub mod Tables

@@ -2,7 +2,6 @@ use Rattle.std.proofs.Common.{◌+◌, ◌*◌, length}
 use Rattle.mc_parse.specs.Read.{as_operand}
 use Rattle.mc_parse.proofs.OperatorWays.{IsMultiplying, IsAdding}
 use Rattle.mc_parse.proofs.TruthWays.{IsOring, IsAnding, IsXoring}
-use Rattle.mc_parse.proofs.MemberWays.{IsCommaing}
 use Rattle.mc_parse.proofs.ArgumentWays.{IsArguing}
 use Rattle.mc_parse.proofs.+expr.Given as goal
 
@@ -76,28 +75,34 @@ invariant-operators::more_prods-loop-op l =
 abbrev pub decreases-operators::more_prods-loop-op : goal.decreases-operators::more_prods-loop-op
 decreases-operators::more_prods-loop-op l = length l.place.tokens.now
 
-abbrev pub invariant-predicate::more_ands-loop-behind : goal.invariant-predicate::more_ands-loop-behind
+abbrev pub invariant-predicate::more_ands-loop-behind :
+    goal.invariant-predicate::more_ands-loop-behind
 invariant-predicate::more_ands-loop-behind l =
     IsXoring l.alias l.below l.fn.place.tokens.now l.place.tokens.now (as_operand l.fn.first)
     (as_operand l.operand)
 
-abbrev pub decreases-predicate::more_ands-loop-behind : goal.decreases-predicate::more_ands-loop-behind
+abbrev pub decreases-predicate::more_ands-loop-behind :
+    goal.decreases-predicate::more_ands-loop-behind
 decreases-predicate::more_ands-loop-behind l = length l.place.tokens.now
 
-abbrev pub invariant-predicate::push_xors-loop-behind : goal.invariant-predicate::push_xors-loop-behind
+abbrev pub invariant-predicate::push_xors-loop-behind :
+    goal.invariant-predicate::push_xors-loop-behind
 invariant-predicate::push_xors-loop-behind l =
     IsOring l.alias l.below l.fn.place.tokens.now l.place.tokens.now l.fn.list l.list
     l.fn.extent l.extent
 
-abbrev pub decreases-predicate::push_xors-loop-behind : goal.decreases-predicate::push_xors-loop-behind
+abbrev pub decreases-predicate::push_xors-loop-behind :
+    goal.decreases-predicate::push_xors-loop-behind
 decreases-predicate::push_xors-loop-behind l = length l.place.tokens.now
 
-abbrev pub invariant-predicate::push_nots-loop-behind : goal.invariant-predicate::push_nots-loop-behind
+abbrev pub invariant-predicate::push_nots-loop-behind :
+    goal.invariant-predicate::push_nots-loop-behind
 invariant-predicate::push_nots-loop-behind l =
     IsAnding l.alias l.below l.fn.place.tokens.now l.place.tokens.now l.fn.list l.list
     l.fn.extent l.extent
 
-abbrev pub decreases-predicate::push_nots-loop-behind : goal.decreases-predicate::push_nots-loop-behind
+abbrev pub decreases-predicate::push_nots-loop-behind :
+    goal.decreases-predicate::push_nots-loop-behind
 decreases-predicate::push_nots-loop-behind l = length l.place.tokens.now
 
 abbrev pub decreases-comparison::affirmed : goal.decreases-comparison::affirmed
@@ -122,20 +127,10 @@ abbrev pub decreases-matching::ranged : goal.decreases-matching::ranged
 decreases-matching::ranged l = 64 * l.below + 40
 
 abbrev pub decreases-members::members : goal.decreases-members::members
-decreases-members::members l = 64 * l.below + 63
+decreases-members::members l = 64 * l.below + 65
 
 abbrev pub decreases-members::push_members : goal.decreases-members::push_members
-decreases-members::push_members l = 64 * l.below + 62
-
-abbrev pub decreases-members::push_ors : goal.decreases-members::push_ors
-decreases-members::push_ors l = 64 * l.below + 61
-
-abbrev pub invariant-members::push_ors-loop-behind : goal.invariant-members::push_ors-loop-behind
-invariant-members::push_ors-loop-behind l =
-    IsCommaing l.below l.fn.place.tokens.now l.place.tokens.now l.fn.list l.list
-
-abbrev pub decreases-members::push_ors-loop-behind : goal.decreases-members::push_ors-loop-behind
-decreases-members::push_ors-loop-behind l = length l.place.tokens.now
+decreases-members::push_members l = 64 * l.below + 64
 
 abbrev pub decreases-call::by_word : goal.decreases-call::by_word
 decreases-call::by_word l = 64 * l.below + 70
@@ -167,11 +162,13 @@ decreases-arguments::more_ors l = 64 * l.below + 62
 abbrev pub decreases-arguments::push_or : goal.decreases-arguments::push_or
 decreases-arguments::push_or l = 64 * l.below + 61
 
-abbrev pub invariant-arguments::more_ors-loop-behind : goal.invariant-arguments::more_ors-loop-behind
+abbrev pub invariant-arguments::more_ors-loop-behind :
+    goal.invariant-arguments::more_ors-loop-behind
 invariant-arguments::more_ors-loop-behind l =
     IsArguing l.below l.fn.place.tokens.now l.place.tokens.now l.fn.list l.list
 
-abbrev pub decreases-arguments::more_ors-loop-behind : goal.decreases-arguments::more_ors-loop-behind
+abbrev pub decreases-arguments::more_ors-loop-behind :
+    goal.decreases-arguments::more_ors-loop-behind
 decreases-arguments::more_ors-loop-behind l = length l.place.tokens.now
 
 abbrev pub decreases-call_cast::cast : goal.decreases-call_cast::cast

@@ -1,6 +1,7 @@
-use Rattle.std.proofs.Common.{◌-◌, ap, ◌∙◌, arith, rules, to_z-of_z, SFits, w64}
+use Rattle.std.proofs.Common.{◌-◌, ap, ◌∙◌, refl, arith, rules, to_z-of_z, SFits, w64}
 use Rattle.mc_parse.specs.Cuts.{cut_in}
-use Rattle.mc_parse.proofs.WeightWays.{cut_read, cut_unopened, cut_deep, cut_numberless, cut_unclosed}
+use Rattle.mc_parse.proofs.WeightWays.{cut_read, cut_unopened, cut_deep, cut_numberless}
+use Rattle.mc_parse.proofs.WeightWays.{cut_unclosed}
 use Rattle.mc_parse.proofs.call_weight.sized.Goals as goal
 
 pub returns-in_default-clause-err : goal.returns-in_default-clause-err
@@ -17,9 +18,9 @@ returns-in_default-int-clause-err c =
 
 pub returns-in-Some-mark-clause-ok : goal.returns-in-Some-mark-clause-ok
 returns-in-Some-mark-clause-ok c =
-    let fits : SFits w64 c.number.result = search rules in
+    let fits : SFits w64 c.in-Some-int.number = search rules in
     cut_read (c.args.below - 1) (omega arith) c.requires c.in-Some.ensures c.in-Some-int.ensures
-    c.in-Some-mark.ensures c.number.ensures
+    c.in-Some-mark.ensures refl
     (c.cut_of.ensures ∙ ap (λ z. cut_in c.args.unit z) (to_z-of_z fits))
 
 pub returns-in-None-clause-err : goal.returns-in-None-clause-err

@@ -12,6 +12,7 @@ returns-in_ok-is_null-in-Some-clause-ok c alias below tokens p =
 
 pub returns-in-None-clause-err : goal.returns-in-None-clause-err
 returns-in-None-clause-err c alias below tokens p =
-    subst (λ f. IsFault (behind_at alias rule.pred) rule.pred below tokens f) (sym c.instead.ensures)
+    subst (λ f. IsFault (behind_at alias rule.pred) rule.pred below tokens f)
+    (sym c.instead.ensures)
     (tested_missed alias below _ _ _ _ _ _ p (c.not_option-negated.ensures below) c.in-None.ensures
     c.left.ensures)

@@ -10,7 +10,8 @@ returns-then-alias-clause-ok c below =
 pub returns-in_ok-escape-in-Some-str-clause-ok : goal.returns-in_ok-escape-in-Some-str-clause-ok
 returns-in_ok-escape-in-Some-str-clause-ok c below =
     escape_read _ below _ _ _ _ _ _ _ c.in-Some.ensures c.in-Some-str.ensures
-    c.in_ok-escape-in-Some-str.ensures (c.from_to.ensures ∙ ap (λ s. from_to c.args.pattern s) c.span.ensures)
+    c.in_ok-escape-in-Some-str.ensures
+    (c.from_to.ensures ∙ ap (λ s. from_to c.args.pattern s) c.span.ensures)
 
 pub returns-else-alias-clause-err : goal.returns-else-alias-clause-err
 returns-else-alias-clause-err c below =

@@ -21,7 +21,8 @@ loop-behind-preserved c below =
 
 pub returns-in-Err-clause-err : goal.returns-in-Err-clause-err
 returns-in-Err-clause-err c below =
-    subst (λ f. IsFault (behind rule.more_collates) rule.more_collates below c.args.place.tokens.now f)
+    subst (λ f. IsFault (behind rule.more_collates) rule.more_collates below c.args.place.tokens.now
+    f)
     (sym c.instead.ensures)
     (collate_missed below _ _ _ _ _ _ (c.loop-behind.invariant below) c.in-Some.ensures
     (c.in-Err.ensures.err below))

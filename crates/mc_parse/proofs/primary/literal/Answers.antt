@@ -9,7 +9,7 @@ pub returns-in-Some : goal.returns-in-Some
 returns-in-Some c below =
     number_read below _ _ _ _ _ c.in-Some.ensures c.span.ensures
     (c.whole.ensures ∙ ap (λ n. whole c.span.result (Int n))
-    (to_z-of_z w64 c.number.result (first_of (search rules, grind arith)) ∙ c.number.ensures))
+    (to_z-of_z w64 c.in-Some.number (first_of (search rules, grind arith))))
 
 pub returns-in-Some-keyword : goal.returns-in-Some-keyword
 returns-in-Some-keyword c below =

@@ -1,7 +1,7 @@
 use Rattle.mc_grammar.proofs.SameReadings.{same_readings}
 use Rattle.mc_sql.specs.Rules.{statement}
 use Rattle.mc_sql.specs.Statements.{statements}
-use Rattle.mc_sql.proofs.Tables.{tables}
+use Rattle.mc_sql.specs.Tables.{tables}
 use Rattle.mc_sql.proofs.Sound.{told_apart, ends}
 use Rattle.mc_sql.proofs.once.statements_read_once.Goals as goal
 

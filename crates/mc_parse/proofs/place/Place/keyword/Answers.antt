@@ -9,5 +9,7 @@ use Rattle.mc_parse.proofs.place.Place.keyword.Goals as goal
 
 pub returns-then-eq : goal.returns-then-eq
 returns-then-eq c =
-    let e : c.args.self.kind ≡ Some (Keyword c.args.keyword) = first_of (search rules, grind arith) in
-    rw c.behind.ensures (keyword_next c.args.self.kind c.args.keyword c.args.self.tokens.now c.args.self.known e)
+    let e : c.args.self.kind ≡ Some (Keyword c.args.keyword) = first_of
+    (search rules, grind arith) in
+    rw c.behind.ensures (keyword_next c.args.self.kind c.args.keyword c.args.self.tokens.now
+    c.args.self.known e)

@@ -1,5 +1,5 @@
 use Rattle.mc_parse.proofs.Items.{item_put}
-use Rattle.mc_parse.proofs.clauses.push_item.Goals as goal
+use Rattle.mc_parse.proofs.clause_items.push_item.Goals as goal
 
 pub returns-in-Ok-push-clause-ok : goal.returns-in-Ok-push-clause-ok
 returns-in-Ok-push-clause-ok c =

@@ -1,6 +1,6 @@
 use Rattle.mc_parse.proofs.CommaLists.{listing_start, listing_link, listing_end, listing_fault}
 use Rattle.mc_parse.proofs.CommaLists.{fewer_left, more_order}
-use Rattle.mc_parse.proofs.clauses.more_orders.Goals as goal
+use Rattle.mc_parse.proofs.clause_order.more_orders.Goals as goal
 
 pub loop-behind-init : goal.loop-behind-init
 loop-behind-init c = listing_start more_order _ _
@@ -11,7 +11,8 @@ loop-behind-smaller c = fewer_left _ _ _ c.in-Some.ensures c.in-Ok.ensures.ok.do
 pub loop-behind-preserved : goal.loop-behind-preserved
 unfolding more_order
 loop-behind-preserved c =
-    listing_link more_order _ _ _ _ _ _ _ c.loop-behind.invariant c.in-Some.ensures c.in-Ok.ensures.ok
+    listing_link more_order _ _ _ _ _ _ _ c.loop-behind.invariant c.in-Some.ensures
+    c.in-Ok.ensures.ok
 
 pub returns-in-Err-clause-err : goal.returns-in-Err-clause-err
 unfolding more_order

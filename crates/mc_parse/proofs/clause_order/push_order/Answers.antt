@@ -1,5 +1,5 @@
 use Rattle.mc_parse.proofs.Items.{order_read}
-use Rattle.mc_parse.proofs.clauses.push_order.Goals as goal
+use Rattle.mc_parse.proofs.clause_order.push_order.Goals as goal
 
 pub returns-in-Ok-push-clause-ok : goal.returns-in-Ok-push-clause-ok
 returns-in-Ok-push-clause-ok c =
