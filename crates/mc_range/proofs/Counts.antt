@@ -1,7 +1,9 @@
 -- How many intervals there are, counted before they are made.
-use Rattle.std.proofs.Common.{◌≡◌, ℕ, suc, ◌+◌, ◌-◌, ◌*◌, ◌^◌, ◌<◌, ◌≤◌, min, Bool, true, false, nat_le, Some, None, if◌then◌else◌}
-use Rattle.std.proofs.Common.{List, [], ◌∷◌, ◌++◌, append_assoc, map, length, length-append, refl, sym, ap, ◌∙◌}
-use Rattle.std.proofs.Common.{⊎_elim, le-leb, leb-true, leb-false, arith}
+use Rattle.std.proofs.Common.{◌≡◌, ℕ, suc, ◌+◌, ◌-◌, ◌*◌, ◌^◌, ◌<◌, ◌≤◌, min, Bool, true, false}
+use Rattle.std.proofs.Common.{nat_le, Some, None, if◌then◌else◌}
+use Rattle.std.proofs.Common.{List, [], ◌∷◌, ◌++◌, append_assoc, map, length, length-append, refl}
+use Rattle.std.proofs.Common.{sym, ap, ◌∙◌}
+use Rattle.std.proofs.Common.{⊎_elim, le-leb, leb-true, arith}
 use Rattle.std.specs.Int.{from_bool}
 use Rattle.std.proofs.lemmas.Bool.{cases_lt, lt-leb}
 use Rattle.std.proofs.lemmas.List.{length-map}
@@ -10,7 +12,7 @@ use Rattle.mc_key.specs.Keys.{top}
 use Rattle.mc_range.specs.Candidates.{candidates, may_pass}
 use Rattle.mc_range.specs.Intervals.{from_to, around, passing, equal_front}
 use Rattle.mc_range.specs.Intervals.{most_intervals, within_most}
-use Rattle.mc_range.specs.Takes.{Appends}
+use Rattle.mc_range.specs.Appends.{Appends}
 use Rattle.mc_range.specs.declared.equal.Put.{Put}
 use Rattle.mc_range.specs.declared.equal.Put.TheVariants.{All, TooMany}
 use Rattle.mc_range.specs.declared.interval.Interval.{Interval}
@@ -20,9 +22,15 @@ use Rattle.mc_range.proofs.Loops.{candidates-least}
 passing_by : (m : Meaning) (weights : List ℕ) (may : Bool) → may_pass m ≡ may →
     length (passing m weights) ≡ from_bool may
 passing_by m weights true e =
-    ap (λ b. length (if b then from_to (weights ++ separator ∷ []) (weights ++ top ∷ []) ∷ [] else [])) e
+    ap
+    (λ b. length
+    (if b then from_to (weights ++ separator ∷ []) (weights ++ top ∷ []) ∷ [] else []))
+    e
 passing_by m weights false e =
-    ap (λ b. length (if b then from_to (weights ++ separator ∷ []) (weights ++ top ∷ []) ∷ [] else [])) e
+    ap
+    (λ b. length
+    (if b then from_to (weights ++ separator ∷ []) (weights ++ top ∷ []) ∷ [] else []))
+    e
 
 length-equal_front : (m : Meaning) (k : ℕ) (weights : List ℕ) →
     length (equal_front m k weights)
@@ -91,9 +99,6 @@ equal_put m k least weights old middle new e first last =
 pub is_within : (b : Bool) (n : ℕ) → b ≡ nat_le n most_intervals → b ≡ true → n ≤ most_intervals
 is_within b n e h = leb-true n most_intervals (sym e ∙ h)
 
-pub is_over : (b : Bool) (n : ℕ) → b ≡ nat_le n most_intervals → b ≡ false → most_intervals < n
-is_over b n e h = leb-false n most_intervals (sym e ∙ h)
-
 -- All were appended, and the list is within the most.
 pub appended : (put : Put) (before after more : List Interval) → put ≡ All →
     Appends put before after more →
@@ -116,7 +121,8 @@ pub all_named : (put : Put) (before after more : List Interval) → before ≡ [
 all_named put before after more none e h =
     let done = appended put before after more e h in
     let is : after ≡ more = done.0 ∙ ap (λ l. l ++ more) none in
-    ap Some is ∙ sym (within_most_of more (let size = ap length is in let w = done.1 in omega arith))
+    ap Some is
+    ∙ sym (within_most_of more (let size = ap length is in let w = done.1 in omega arith))
 
 pub none_named : (put : Put) (before after more : List Interval) → before ≡ [] →
     put ≡ TooMany → Appends put before after more → None ≡ within_most more

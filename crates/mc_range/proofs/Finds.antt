@@ -1,5 +1,6 @@
 -- An index finds each text that meets a condition in one of its intervals.
-use Rattle.std.proofs.Common.{◌≡◌, ℕ, Bool, true, false, List, [], ◌∷◌, Option, Some, None, refl, sym}
+use Rattle.std.proofs.Common.{◌≡◌, ℕ, Bool, true, false, List, [], ◌∷◌, Option, Some, None, refl}
+use Rattle.std.proofs.Common.{sym}
 use Rattle.std.proofs.Common.{ap, ◌∙◌, subst, take, length, nat_le, if◌then◌else◌, is_gt, is_lt}
 use Rattle.std.specs.List.{All as Each, Contains, flat_map}
 use Rattle.std.specs.declared.cmp.Ordering.{Ordering}
@@ -24,7 +25,8 @@ use Rattle.mc_range.specs.Intervals.{from_to, equal_cell, at_most, at_least, bet
 use Rattle.mc_range.specs.Intervals.{most_intervals, within_most}
 use Rattle.mc_range.proofs.Candidates.{Contains-first, Contains-flat_map}
 use Rattle.mc_range.proofs.Compare.{NotAbove, not_above-trans, not_above-back, not_above-forth}
-use Rattle.mc_range.proofs.Compare.{not_above-greatest, least-not_above, lt_false, gt_false, gt_from}
+use Rattle.mc_range.proofs.Compare.{not_above-greatest, least-not_above, lt_false, gt_false}
+use Rattle.mc_range.proofs.Compare.{gt_from}
 use Rattle.mc_range.proofs.Compare.{lt_from, then_gt_back, then_lt_back, then_equal_back}
 use Rattle.mc_range.proofs.Fronts.{in_between, beside, low_end, high_end, equal_found}
 use Rattle.mc_range.proofs.LikeFinds.{like_found}
@@ -179,7 +181,8 @@ like_cell_found m known prefix codes Null escape intervals a of_set h named = ab
 like_cell_found m known prefix codes (Str pattern) escape intervals a of_set h named =
     let items = items_of escape (chars m.charset pattern) in
     like_found m known prefix (literal_front items) codes intervals
-    (literals_of_set m.charset escape (chars m.charset pattern) (known.of_text pattern of_set)) a (known.like_front items codes h) named
+    (literals_of_set m.charset escape (chars m.charset pattern) (known.of_text pattern of_set)) a
+    (known.like_front items codes h) named
 
 within_by : (few : Bool) (list intervals : List Interval) →
     (if few then Some list else None) ≡ Some intervals → list ≡ intervals

@@ -17,7 +17,8 @@ use Rattle.mc_range.specs.Intervals.{from_to, around, passing, equal_front}
 use Rattle.mc_range.proofs.Candidates.{own_candidate, Contains-first, Contains-behind, Contains-map}
 use Rattle.mc_range.proofs.Compare.{NotAbove, not_above-itself, not_above-back, not_above-forth}
 use Rattle.mc_range.proofs.Compare.{lt_false, gt_false}
-use Rattle.mc_range.proofs.Lifts.{Known, padded_single, weights_of, flat_single, lift_low, lift_high}
+use Rattle.mc_range.proofs.Lifts.{Known, padded_single, weights_of, flat_single, lift_low}
+use Rattle.mc_range.proofs.Lifts.{lift_high}
 use Rattle.mc_range.proofs.Outcome.{Outcome, Follows, Passes, outcome}
 
 -- A list between two others lies in their interval.

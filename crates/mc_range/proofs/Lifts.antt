@@ -1,6 +1,8 @@
 -- Flat lists lie where their first lists do.
-use Rattle.std.proofs.Common.{◌≡◌, ◌≢◌, ℕ, zero, suc, ◌<◌, ◌≤◌, ◌==◌, ◌⊎◌, Bool, true, false, List, []}
-use Rattle.std.proofs.Common.{◌∷◌, ◌++◌, append_assoc, append-nil, refl, sym, ap, ◌∙◌, subst, inl, inr}
+use Rattle.std.proofs.Common.{◌≡◌, ◌≢◌, ℕ, zero, suc, ◌<◌, ◌≤◌, ◌==◌, ◌⊎◌, Bool, true, false}
+use Rattle.std.proofs.Common.{List, []}
+use Rattle.std.proofs.Common.{◌∷◌, ◌++◌, append_assoc, append-nil, refl, sym, ap, ◌∙◌, subst, inl}
+use Rattle.std.proofs.Common.{inr}
 use Rattle.std.proofs.Common.{arith, is_gt, is_lt, ne_eqb, if◌then◌else◌}
 use Rattle.std.specs.List.{All}
 use Rattle.std.specs.declared.cmp.Ordering.{Ordering}
@@ -160,7 +162,8 @@ high_by m known c codes weights chars h (inl one) =
     ∙ h
 high_by m known c codes weights chars h (inr more) =
     let flat = flat_many m more codes in
-    let bound = subst (All (λ number. number ≤ greatest_weight)) flat.1 (known.bounded codes chars) in
+    let bound = subst (All (λ number. number ≤ greatest_weight)) flat.1
+    (known.bounded codes chars) in
     ap (λ l. is_gt (list_order m.pad m.space (flat_list m codes) (c ++ l))) (high_many m more)
     ∙ ap (λ l. is_gt (list_order m.pad m.space l (c ++ separator ∷ top ∷ []))) flat.1
     ∙ ap is_gt (then_many m known more (m.level_list 1 codes) c flat.0 (top ∷ [])
@@ -210,7 +213,8 @@ flat_order m known codes other chars others =
 
 begins_in : (m : Meaning) (codes : List ℕ) → (m.levels ≡ 1) ⊎ (1 < m.levels) →
     (more : List ℕ) × (flat_list m codes ≡ m.level_list 1 codes ++ more)
-begins_in m codes (inl one) = ([], flat_single m one codes ∙ sym (append-nil (m.level_list 1 codes)))
+begins_in m codes (inl one) =
+    ([], flat_single m one codes ∙ sym (append-nil (m.level_list 1 codes)))
 begins_in m codes (inr many) =
     let flat = flat_many m many codes in (separator ∷ flat.0, flat.1)
 

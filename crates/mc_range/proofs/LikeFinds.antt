@@ -1,6 +1,8 @@
 -- An index finds what matches a pattern: it begins with the list of the safe literals.
-use Rattle.std.proofs.Common.{◌≡◌, ℕ, zero, suc, ◌<◌, ◌≤◌, min, Bool, true, false, List, [], ◌∷◌, ◌++◌}
-use Rattle.std.proofs.Common.{append_assoc, append-nil, length, get_or, take, drop, take-take, take_all}
+use Rattle.std.proofs.Common.{◌≡◌, ℕ, zero, suc, ◌<◌, ◌≤◌, min, Bool, true, false, List, [], ◌∷◌}
+use Rattle.std.proofs.Common.{◌++◌}
+use Rattle.std.proofs.Common.{append_assoc, append-nil, length, get_or, take, drop, take-take}
+use Rattle.std.proofs.Common.{take_all}
 use Rattle.std.proofs.Common.{take-append-drop, length-take, refl, sym, ap, ◌∙◌, subst, arith, cond}
 use Rattle.std.proofs.Common.{Option, Some, None, if◌then◌else◌, is_gt}
 use Rattle.std.specs.List.{All, AllZip, Contains, prefix_len, take_while}

@@ -4,4 +4,4 @@ pub mod Safe
 pub mod Intervals
 pub mod Finds
 pub mod Places
-pub mod Takes
+pub mod Appends

@@ -23,6 +23,7 @@ pub enum Cond {
     Between(Cell, Cell),
     /// Equal to one of the constants.
     In(List<Cell>),
-    /// Like the pattern, in which the escape makes the next character stand for itself.
+    /// Like the pattern, in which the escape, a code point, makes the next character stand for
+    /// itself.
     Like { pattern: Cell, escape: Option<u32> },
 }

@@ -3,7 +3,7 @@ ghost use Rattle.mc_range.specs.Candidates.{candidates, with_tails};
 ghost use Rattle.mc_range.specs.Condition.{IsCellOf};
 ghost use Rattle.mc_range.specs.Intervals.{around, passing, equal_front, equal_chars, equal_cell};
 ghost use Rattle.mc_range.specs.Intervals.{most_intervals, within_most};
-ghost use Rattle.mc_range.specs.Takes.{Appends};
+ghost use Rattle.mc_range.specs.Appends.{Appends};
 ghost use Rattle.std.specs.List.{All, flat_map};
 ghost use Rattle.std.specs.Prelude.{◌≡◌, ◌≤◌, ◌+◌, ◌++◌, ◌∷◌, [], None, IfOk, length, map, min};
 ghost use Rattle.std.specs.Prelude.{nat_le};

@@ -4,6 +4,8 @@ use mc_base::Weights;
 /// in an end is below every weight, and `mc_key::TOP` above.
 #[derive(Drop)]
 pub struct Interval {
+    /// The lower end.
     pub lo: Option<Weights>,
+    /// The upper end.
     pub hi: Option<Weights>,
 }

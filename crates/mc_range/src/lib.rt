@@ -1,12 +1,12 @@
 //! The intervals of an index in which the texts lie that meet a condition: MySQL 8.0 manual,
 //! 8.2.1.2 and 8.3.5.
 //!
-//! A condition compares a column with constants (`specs/Condition.antt`). Its intervals are lists of
-//! weights from one end to another (`specs/Intervals.antt`), for an index of whole texts or of their
-//! first characters. There a text that is equal to a constant may have one of several lists, the
-//! candidates (`specs/Candidates.antt`), and LIKE uses the literals that no contraction of other
-//! characters reaches (`specs/Safe.antt`). What the intervals are good for says
-//! `specs/Finds.antt`: no text that meets the condition lies outside of them.
+//! A condition compares a column with constants (`specs/Condition.antt`). Its intervals are lists
+//! of weights from one end to another (`specs/Intervals.antt`), for an index of whole texts or of
+//! their first characters. There a text that is equal to a constant may have one of several lists,
+//! the candidates (`specs/Candidates.antt`), and LIKE uses the literals that no contraction of
+//! other characters reaches (`specs/Safe.antt`). `specs/Finds.antt` says what the intervals are
+//! good for: no text that meets the condition lies outside of them.
 //!
 //! Read the modules in this order: `condition` and `interval`; `lists` (the lists of a text);
 //! `place` and `ends` (the least and the greatest candidate); `equal`; `safe` and `like`;
