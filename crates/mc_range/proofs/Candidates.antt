@@ -1,9 +1,8 @@
 -- What is among the candidates, how many there are, and how a loop comes to them.
-use Rattle.std.proofs.Common.{◌≡◌, ℕ, zero, suc, ◌+◌, ◌-◌, ◌*◌, ◌<◌, ◌≤◌, ◌⊎◌, min, Bool, true}
-use Rattle.std.proofs.Common.{false}
-use Rattle.std.proofs.Common.{List, [], ◌∷◌, ◌++◌, append_assoc, append-nil, map, refl, sym, ap}
+use Rattle.std.proofs.Common.{◌≡◌, ℕ, zero, suc, ◌+◌, ◌-◌, ◌*◌, ◌<◌, ◌≤◌, ◌⊎◌, min}
+use Rattle.std.proofs.Common.{List, [], ◌∷◌, ◌++◌, append-nil, map, refl, sym, ap}
 use Rattle.std.proofs.Common.{◌∙◌}
-use Rattle.std.proofs.Common.{subst, inl, inr, length, get_or, take, drop, take_at, length-append}
+use Rattle.std.proofs.Common.{subst, inl, inr, length, get_or, take, take_at, length-append}
 use Rattle.std.proofs.Common.{suc-mul, add_comm, mul_comm, mul-zero, arith}
 use Rattle.std.specs.List.{flat_map, Contains}
 use Rattle.std.proofs.lemmas.Bool.{cases_eq}

@@ -1,26 +1,22 @@
 -- An index finds each text that meets a condition in one of its intervals.
-use Rattle.std.proofs.Common.{◌≡◌, ℕ, Bool, true, false, List, [], ◌∷◌, Option, Some, None, refl}
+use Rattle.std.proofs.Common.{◌≡◌, ℕ, Bool, true, false, List, [], ◌∷◌, Option, Some, None}
 use Rattle.std.proofs.Common.{sym}
 use Rattle.std.proofs.Common.{ap, ◌∙◌, subst, take, length, nat_le, if◌then◌else◌, is_gt, is_lt}
 use Rattle.std.specs.List.{All as Each, Contains, flat_map}
-use Rattle.std.specs.declared.cmp.Ordering.{Ordering}
-use Rattle.std.specs.declared.cmp.Ordering.TheVariants.{Less, Equal, Greater}
-use Rattle.std.specs.Ordering.{ordering_then}
+use Rattle.std.specs.declared.cmp.Ordering.TheVariants.{Equal}
 use Rattle.std.proofs.lemmas.List.Elements.{All-contains}
-use Rattle.mc_charset.specs.Chars.{chars, IsWellFormed}
-use Rattle.mc_order.specs.Laws.{IsWeight}
+use Rattle.mc_charset.specs.Chars.{chars}
 use Rattle.mc_order.specs.Meaning.{Meaning, flat_list, AreCharsOf}
 use Rattle.mc_order.specs.Order.{list_order}
 use Rattle.mc_like.specs.Items.{items_of, literal_front}
 use Rattle.mc_range.specs.declared.condition.Cell.{Cell}
 use Rattle.mc_range.specs.declared.condition.Cell.TheVariants.{Null, Str}
-use Rattle.mc_range.specs.declared.condition.Cond.{Cond}
 use Rattle.mc_range.specs.declared.condition.Cond.TheVariants.{Eq, AtMost, AtLeast, Between, In}
 use Rattle.mc_range.specs.declared.condition.Cond.TheVariants.{Like}
 use Rattle.mc_range.specs.declared.interval.Interval.{Interval}
 use Rattle.mc_range.specs.Candidates.{ends, behind_low, behind_high, lower_end, upper_end}
 use Rattle.mc_range.specs.Condition.{IsCellOf, IsEqualTo, IsAtMost, IsAtLeast, IsLike}
-use Rattle.mc_range.specs.Finds.{IsIn, IsInOne, IsFrom, IsUpTo, index_list, FindsAll}
+use Rattle.mc_range.specs.Finds.{IsIn, IsInOne, index_list, FindsAll}
 use Rattle.mc_range.specs.Intervals.{from_to, equal_cell, at_most, at_least, between, like_cell}
 use Rattle.mc_range.specs.Intervals.{most_intervals, within_most}
 use Rattle.mc_range.proofs.Candidates.{Contains-first, Contains-flat_map}

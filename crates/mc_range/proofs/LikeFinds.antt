@@ -1,21 +1,19 @@
 -- An index finds what matches a pattern: it begins with the list of the safe literals.
-use Rattle.std.proofs.Common.{◌≡◌, ℕ, zero, suc, ◌<◌, ◌≤◌, min, Bool, true, false, List, [], ◌∷◌}
+use Rattle.std.proofs.Common.{◌≡◌, ℕ, zero, suc, ◌<◌, ◌≤◌, min, List, [], ◌∷◌}
 use Rattle.std.proofs.Common.{◌++◌}
 use Rattle.std.proofs.Common.{append_assoc, append-nil, length, get_or, take, drop, take-take}
-use Rattle.std.proofs.Common.{take_all}
-use Rattle.std.proofs.Common.{take-append-drop, length-take, refl, sym, ap, ◌∙◌, subst, arith, cond}
-use Rattle.std.proofs.Common.{Option, Some, None, if◌then◌else◌, is_gt}
+use Rattle.std.proofs.Common.{take-append-drop, length-take, refl, sym, ap, ◌∙◌, subst, arith}
+use Rattle.std.proofs.Common.{Option, Some, None, is_gt}
 use Rattle.std.specs.List.{All, AllZip, Contains, prefix_len, take_while}
 use Rattle.std.proofs.lemmas.List.Elements.{All-contains, Contains-append_right, All-from_get_or}
 use Rattle.std.proofs.lemmas.List.Sums.{prefix_len-le-length, prefix_len_passes}
-use Rattle.std.proofs.lemmas.List.{take_min, get_or-take}
+use Rattle.std.proofs.lemmas.List.{get_or-take}
 use Rattle.mc_order.specs.declared.pad.Pad.{Pad}
 use Rattle.mc_order.specs.declared.pad.Pad.TheVariants.{PadSpace, NoPad}
 use Rattle.mc_order.specs.Consequences.{IsSameChar}
 use Rattle.mc_order.specs.Laws.{greatest_weight, IsWeight}
 use Rattle.mc_order.specs.Meaning.{Meaning, separator, flat_list, first_chars, AreCharsOf, IsSafe}
 use Rattle.mc_order.specs.Order.{list_order}
-use Rattle.mc_order.specs.Tails.{has_members}
 use Rattle.mc_key.specs.Keys.{top}
 use Rattle.mc_range.specs.declared.interval.Interval.{Interval}
 use Rattle.mc_range.specs.Finds.{IsIn, IsInOne, index_list}

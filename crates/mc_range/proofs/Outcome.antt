@@ -1,7 +1,7 @@
 -- Where the first list of a text's first characters lies, beside the list of a constant.
-use Rattle.std.proofs.Common.{◌≡◌, ◌≢◌, ℕ, zero, suc, ◌<◌, ◌≤◌, ◌⊎◌, ◌&&◌, min, Bool, true, false}
+use Rattle.std.proofs.Common.{◌≡◌, ◌≢◌, ℕ, ◌≤◌, ◌⊎◌, ◌&&◌, true}
 use Rattle.std.proofs.Common.{List, [], ◌∷◌, ◌++◌, append_assoc, append-nil, refl, sym, ap, ◌∙◌}
-use Rattle.std.proofs.Common.{subst, inl, inr, length, take, length-append, arith, is_gt}
+use Rattle.std.proofs.Common.{subst, inl, inr, length, take, arith, is_gt}
 use Rattle.std.specs.List.{All, Contains}
 use Rattle.std.specs.declared.cmp.Ordering.{Ordering}
 use Rattle.std.specs.declared.cmp.Ordering.TheVariants.{Less, Equal, Greater}
@@ -10,14 +10,14 @@ use Rattle.std.proofs.lemmas.Bool.{cases_eq}
 use Rattle.std.proofs.lemmas.List.Elements.{All-contains, Contains-append_right}
 use Rattle.mc_order.specs.declared.pad.Pad.{Pad}
 use Rattle.mc_order.specs.declared.pad.Pad.TheVariants.{PadSpace, NoPad}
-use Rattle.mc_order.specs.Laws.{greatest_weight, IsWeight, IsCut}
+use Rattle.mc_order.specs.Laws.{IsWeight, IsCut}
 use Rattle.mc_order.specs.Meaning.{Meaning, separator}
 use Rattle.mc_order.specs.Order.{list_order}
 use Rattle.mc_order.specs.Tails.{has_members}
 use Rattle.mc_key.specs.Keys.{top}
 use Rattle.mc_key.specs.Laws.{TopIsAbove}
 use Rattle.mc_range.specs.Candidates.{candidates, is_padded, may_pass}
-use Rattle.mc_range.proofs.Candidates.{candidate, own_candidate, Contains-first, Contains-none}
+use Rattle.mc_range.proofs.Candidates.{candidate, Contains-first, Contains-none}
 use Rattle.mc_range.proofs.Compare.{FrontsFallAway, AreTotal, NotAbove, differ_order}
 use Rattle.mc_range.proofs.Compare.{below_weight, longer_unpadded, more_padded}
 

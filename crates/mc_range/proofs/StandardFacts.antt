@@ -1,12 +1,11 @@
 -- The definitions at worked examples, computed: an excerpt of the keys of UTS #10, version 4.0.0,
 -- padded with the space's weight, and the same with the contraction ch.
-use Rattle.std.proofs.Common.{◌≡◌, ℕ, ◌==◌, true, false, List, [], ◌∷◌, Some, None, length, refl}
+use Rattle.std.proofs.Common.{◌≡◌, ℕ, ◌==◌, true, false, List, [], ◌∷◌, None, length, refl}
 use Rattle.std.proofs.Common.{if◌then◌else◌}
 use Rattle.std.specs.List.{flat_map}
-use Rattle.std.specs.Ordering.{is_gt}
 use Rattle.mc_charset.specs.declared.charset.Charset.TheVariants.{Utf8mb4}
 use Rattle.mc_order.specs.declared.pad.Pad.TheVariants.{PadSpace, NoPad}
-use Rattle.mc_order.specs.Meaning.{Meaning, separator}
+use Rattle.mc_order.specs.Meaning.{Meaning}
 use Rattle.mc_order.specs.Order.{list_order, order_to_end}
 use Rattle.mc_key.specs.Keys.{top}
 use Rattle.mc_like.specs.declared.item.PatternItem.TheVariants.{Literal, Any}

@@ -1,6 +1,6 @@
 -- The intervals of a condition: MySQL 8.0 manual, 8.2.1.2, Range Optimization.
 use Rattle.std.specs.Prelude.{ℕ, nat_le, List, [], ◌∷◌, ◌++◌, Option, Some, None}
-use Rattle.std.specs.Prelude.{if◌then◌else◌, map, length, option_and_then}
+use Rattle.std.specs.Prelude.{if◌then◌else◌, map, length}
 use Rattle.std.specs.List.{flat_map}
 use Rattle.mc_charset.specs.Chars.{chars}
 use Rattle.mc_order.specs.declared.pad.Pad.{Pad}

@@ -1,4 +1,4 @@
-use Rattle.std.proofs.Common.{◌≡◌, ◌+◌, ◌++◌, arith, refl, ap, map, length, take}
+use Rattle.std.proofs.Common.{◌+◌, ◌++◌, arith, refl, ap, map, length, take}
 use Rattle.mc_range.specs.Intervals.{around}
 use Rattle.mc_range.proofs.Loops.{fronts_are, front_put, fronts_put}
 use Rattle.mc_range.proofs.equal.put_candidates.Goals as goal

@@ -1,4 +1,4 @@
-use Rattle.std.proofs.Common.{arith, refl}
+use Rattle.std.proofs.Common.{arith}
 use Rattle.mc_range.specs.Intervals.{around}
 use Rattle.mc_range.proofs.Loops.{tail_put, tails_put}
 use Rattle.mc_range.proofs.equal.put_tails.Goals as goal

@@ -1,5 +1,3 @@
-use Rattle.std.specs.Prelude.{ℕ}
-use Rattle.mc_order.specs.Meaning.{Meaning}
 use Rattle.mc_range.proofs.Finds.{finds_all}
 use Rattle.mc_range.proofs.Lifts.{Known}
 use Rattle.mc_range.proofs.Outcome.{Given}
