@@ -14,7 +14,7 @@ use Rattle.std.proofs.lemmas.Bool.Decides.{nat_tests}
 use Rattle.std.proofs.lemmas.Map.Lookups.{exact_bytes}
 use Rattle.mc_allkeys.specs.Keys.{numbered, entries_in}
 use Rattle.mc_allkeys.specs.Longest.{HasNoLonger, IsLongest}
-use Rattle.mc_allkeys.specs.Singles.{Store, single_in, is_head_in}
+use Rattle.mc_allkeys.specs.Singles.{Store, single_in, reach_in}
 use Rattle.mc_allkeys.specs.Table.{Entries, is_long, contractions_of}
 use Rattle.mc_allkeys.specs.Texts.{text_cmp}
 use Rattle.mc_allkeys.specs.declared.element.Element.{Element}
@@ -316,22 +316,21 @@ pub no_entries : (store : Store) (contractions : Entries) → contractions ≡ m
 no_entries store contractions e none =
     same_entries (entries_in store contractions) map.empty (no_entry store contractions e none)
 
--- Each first code point of a contraction is marked.
-abbrev pub AreMarked : Store → Entries → Type 0
-AreMarked store contractions =
+-- No contraction is longer than what is noted for its first code point.
+abbrev pub AreNoted : Store → Entries → Type 0
+AreNoted store contractions =
     (code : ℕ) (rest : List ℕ) → map.contains_key contractions (code ∷ rest) ≡ true →
-    is_head_in store code ≡ true
+    length (code ∷ rest) ≤ reach_in store code
 
--- A text that begins with an unmarked code point begins with no contraction.
-pub unmarked : (store : Store) (contractions : Entries) → AreLong contractions →
-    AreMarked store contractions → (first : ℕ) (rest : List ℕ) → is_head_in store first ≡ false →
-    HasNoLonger (entries_in store contractions) (first ∷ rest) 1
-unmarked store contractions long marked first rest plain zero two one within = absurd (omega arith)
-unmarked store contractions long marked first rest plain (suc k) two one within =
-    long_get store contractions long (first ∷ take k rest)
-    (omega (arith, length-take k rest))
-    ∙ none_by (map.get contractions (first ∷ take k rest))
-    (λ e. let m = marked first (take k rest) e in absurd cc)
+-- A text begins with no contraction that is longer than what is noted for its first code point.
+pub unreached : (store : Store) (contractions : Entries) → AreNoted store contractions →
+    (first : ℕ) (rest : List ℕ) (n : ℕ) → reach_in store first ≤ n →
+    HasNoLonger contractions (first ∷ rest) n
+unreached store contractions noted first rest n reach zero two more within = absurd (omega arith)
+unreached store contractions noted first rest n reach (suc k) two more within =
+    none_by (map.get contractions (first ∷ take k rest))
+    (λ e. let m = noted first (take k rest) e in
+    absurd (omega (arith, m, reach, length-take k rest)))
 
 -- What is the longest among the contractions is so among all entries.
 pub longer_all : (store : Store) (contractions : Entries) → AreLong contractions → (text : List ℕ)
@@ -391,17 +390,17 @@ longest_lift now store contractions long text None h = longer_all store contract
 longest_lift now store contractions long text (Some f) h =
     longest_all store contractions long text f.0 (now f.1) h
 
-pub unmarked_text : (store : Store) (contractions : Entries) → AreLong contractions →
-    AreMarked store contractions → (text : List ℕ) → 1 ≤ length text →
-    is_head_in store (get_or text 0 0) ≡ false → HasNoLonger (entries_in store contractions) text 1
-unmarked_text store contractions long marked [] some plain = absurd (omega arith)
-unmarked_text store contractions long marked (first ∷ rest) some plain =
-    unmarked store contractions long marked first rest plain
+pub unreached_text : (store : Store) (contractions : Entries) → AreNoted store contractions →
+    (text : List ℕ) → 1 ≤ length text → (n : ℕ) → reach_in store (get_or text 0 0) ≤ n →
+    HasNoLonger contractions text n
+unreached_text store contractions noted [] some n reach = absurd (omega arith)
+unreached_text store contractions noted (first ∷ rest) some n reach =
+    unreached store contractions noted first rest n reach
 
--- No contractions: none is marked, and there are few.
-pub none_marked : (store : Store) (contractions : Entries) → contractions ≡ map.empty →
-    AreMarked store contractions
-none_marked store contractions e code rest h =
+-- No contractions: none is noted, and there are few.
+pub none_noted : (store : Store) (contractions : Entries) → contractions ≡ map.empty →
+    AreNoted store contractions
+none_noted store contractions e code rest h =
     let s = none_long contractions e (code ∷ rest) h in
     let none = ap (λ (m : Entries). is_some (map.get m (code ∷ rest))) e ∙ ap is_some (get-empty text_cmp (code ∷ rest)) in
     absurd cc
@@ -410,25 +409,28 @@ pub none_few : (contractions : Entries) → contractions ≡ map.empty → map.l
 none_few contractions e =
     let none = ap (λ (m : Entries). map.len m) e ∙ len-empty text_cmp (List Element) in omega arith
 
--- A contraction that is put is marked.
-marked_by : (store new : Store) (contractions : Entries) (text : List ℕ) (v : List Element) →
-    AreMarked store contractions →
-    ((c : ℕ) → is_head_in store c ≡ true → is_head_in new c ≡ true) →
-    is_head_in new (get_or text 0 0) ≡ true → (code : ℕ) (rest : List ℕ) (o : Ordering) →
+-- A contraction that is put is noted.
+noted_by : (store new : Store) (contractions : Entries) (text : List ℕ) (v : List Element) →
+    AreNoted store contractions →
+    ((c : ℕ) → reach_in store c ≤ reach_in new c) →
+    length text ≤ reach_in new (get_or text 0 0) → (code : ℕ) (rest : List ℕ) (o : Ordering) →
     text_cmp (code ∷ rest) text ≡ o →
     is_some (cond (is_eq o) (Some v) (map.get contractions (code ∷ rest))) ≡ true →
-    is_head_in new code ≡ true
-marked_by store new contractions text v marked kept first code rest Less e h = kept code (marked code rest h)
-marked_by store new contractions text v marked kept first code rest Equal e h =
-    ap (λ (t : List ℕ). is_head_in new (get_or t 0 0)) (exact_bytes (code ∷ rest) text e) ∙ first
-marked_by store new contractions text v marked kept first code rest Greater e h = kept code (marked code rest h)
+    length (code ∷ rest) ≤ reach_in new code
+noted_by store new contractions text v noted kept first code rest Less e h =
+    let m = noted code rest h in let more = kept code in omega (arith, m, more)
+noted_by store new contractions text v noted kept first code rest Equal e h =
+    subst (λ (t : List ℕ). length t ≤ reach_in new (get_or t 0 0))
+    (sym (exact_bytes (code ∷ rest) text e)) first
+noted_by store new contractions text v noted kept first code rest Greater e h =
+    let m = noted code rest h in let more = kept code in omega (arith, m, more)
 
-pub put_marked : (store new : Store) (contractions : Entries) (text : List ℕ) (v : List Element) →
-    AreMarked store contractions →
-    ((c : ℕ) → is_head_in store c ≡ true → is_head_in new c ≡ true) →
-    is_head_in new (get_or text 0 0) ≡ true → AreMarked new (map.insert contractions text v)
-put_marked store new contractions text v marked kept first code rest h =
-    marked_by store new contractions text v marked kept first code rest (text_cmp (code ∷ rest) text) refl
+pub put_noted : (store new : Store) (contractions : Entries) (text : List ℕ) (v : List Element) →
+    AreNoted store contractions →
+    ((c : ℕ) → reach_in store c ≤ reach_in new c) →
+    length text ≤ reach_in new (get_or text 0 0) → AreNoted new (map.insert contractions text v)
+put_noted store new contractions text v noted kept first code rest h =
+    noted_by store new contractions text v noted kept first code rest (text_cmp (code ∷ rest) text) refl
     (rw (get-insert nat_list_cmp_total contractions text v (code ∷ rest)) at h)
 
 few_by : (b : Bool) (n m : ℕ) → m ≡ cond b n (n + 1) → n < 4294967295 → m < 4294967296
@@ -442,21 +444,30 @@ put_few contractions text v h =
     (len-insert nat_list_cmp_total contractions text v) h
 
 -- What a put leaves, whether there was memory or not.
+pub more_noted : (store new : Store) (contractions : Entries) → AreNoted store contractions →
+    ((c : ℕ) → reach_in store c ≤ reach_in new c) → AreNoted new contractions
+more_noted store new contractions noted kept code rest h =
+    let m = noted code rest h in let more = kept code in omega (arith, m, more)
+
+pub same_reach : (store new : Store) → ((c : ℕ) → reach_in new c ≡ reach_in store c) → (c : ℕ) →
+    reach_in store c ≤ reach_in new c
+same_reach store new same c = let e = same c in omega (arith, e)
+
 pub after_put : {T E : Type 0} (r : Result T E) (store new : Store) (contractions more : Entries)
-    (text : List ℕ) (v : List Element) → AreLong contractions → AreMarked store contractions →
-    ((c : ℕ) → is_head_in store c ≡ true → is_head_in new c ≡ true) →
-    is_head_in new (get_or text 0 0) ≡ true → 2 ≤ length text → length text ≤ 6 →
+    (text : List ℕ) (v : List Element) → AreLong contractions → AreNoted store contractions →
+    ((c : ℕ) → reach_in store c ≤ reach_in new c) →
+    length text ≤ reach_in new (get_or text 0 0) → 2 ≤ length text → length text ≤ 6 →
     map.len contractions < 4294967295 → OnOk r (more ≡ map.insert contractions text v) →
-    OnErr r (more ≡ contractions) → AreLong more × (AreMarked new more × (map.len more < 4294967296))
-after_put (Ok x) store new contractions more text v long marked kept first low high few ok err =
-    let whole : Entries → Type 0 = λ m. AreLong m × (AreMarked new m × (map.len m < 4294967296)) in
+    OnErr r (more ≡ contractions) → AreLong more × (AreNoted new more × (map.len more < 4294967296))
+after_put (Ok x) store new contractions more text v long noted kept first low high few ok err =
+    let whole : Entries → Type 0 = λ m. AreLong m × (AreNoted new m × (map.len m < 4294967296)) in
     subst whole (sym ok) (
       put_sized contractions text v long low high,
-      (put_marked store new contractions text v marked kept first, put_few contractions text v few),
+      (put_noted store new contractions text v noted kept first, put_few contractions text v few),
     )
-after_put (Err x) store new contractions more text v long marked kept first low high few ok err =
-    let whole : Entries → Type 0 = λ m. AreLong m × (AreMarked new m × (map.len m < 4294967296)) in
-    subst whole (sym err) (long, ((λ code rest h. kept code (marked code rest h)), omega arith))
+after_put (Err x) store new contractions more text v long noted kept first low high few ok err =
+    let whole : Entries → Type 0 = λ m. AreLong m × (AreNoted new m × (map.len m < 4294967296)) in
+    subst whole (sym err) (long, (more_noted store new contractions noted kept, omega arith))
 
 -- The entries behind a put that had memory.
 pub long_put : (old new : Store) (contractions more : Entries) → AreLong contractions →

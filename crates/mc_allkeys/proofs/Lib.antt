@@ -6,6 +6,8 @@ pub mod CutLemmas
 pub mod ListedLemmas
 pub mod ReadLemmas
 pub mod RangeLemmas
+pub mod StepLemmas
+pub mod RangesLemmas
 pub mod PutLemmas
 pub mod PieceLemmas
 pub mod FrontLemmas

@@ -1,5 +1,5 @@
 -- What is kept for each code point, in pages of 256.
-use Rattle.std.specs.Prelude.{◌≡◌, ℕ, ◌+◌, ◌/◌, ◌%◌, ◌≤◌, false, List, [], take, drop, Option, Some}
+use Rattle.std.specs.Prelude.{◌≡◌, ℕ, ◌+◌, ◌/◌, ◌%◌, ◌≤◌, List, [], take, drop, Option, Some}
 use Rattle.std.specs.Prelude.{None, option_map, slice_index_or}
 use Rattle.mc_allkeys.specs.declared.element.Element.{Element}
 use Rattle.mc_allkeys.specs.declared.page.Cell.{Cell}
@@ -7,7 +7,7 @@ use Rattle.mc_allkeys.specs.declared.page.Part.{Part}
 
 -- the cell of a code point of which nothing is known
 abbrev pub no_cell : Cell
-no_cell = record { part = None; is_head = false }
+no_cell = record { part = None; reach = 1 }
 
 -- the cell of a code point in pages
 abbrev pub cell_at : List (List Cell) → ℕ → Cell

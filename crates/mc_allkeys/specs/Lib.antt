@@ -16,4 +16,6 @@ pub mod KeysFile
 pub mod Cells
 pub mod Singles
 pub mod Places
+pub mod Starts
+pub mod Steps
 pub mod Keys

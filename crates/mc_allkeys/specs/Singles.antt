@@ -1,5 +1,5 @@
 -- The elements of single code points.
-use Rattle.std.specs.Prelude.{ℕ, Bool, List, Option}
+use Rattle.std.specs.Prelude.{ℕ, List, Option}
 use Rattle.mc_allkeys.specs.Cells.{cell_at, elements_in}
 use Rattle.mc_allkeys.specs.declared.element.Element.{Element}
 use Rattle.mc_allkeys.specs.declared.page.Cell.{Cell}
@@ -13,6 +13,6 @@ pub record Store : Type 0 where
 unfoldable pub single_in : Store → ℕ → Option (List Element)
 single_in store code = elements_in store.shared (cell_at store.pages code)
 
--- whether a code point is marked as the first of a contraction
-unfoldable pub is_head_in : Store → ℕ → Bool
-is_head_in store code = (cell_at store.pages code).is_head
+-- how many code points are noted for the contractions that begin with a code point, else 1
+unfoldable pub reach_in : Store → ℕ → ℕ
+reach_in store code = (cell_at store.pages code).reach

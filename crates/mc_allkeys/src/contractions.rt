@@ -13,9 +13,6 @@ use std::alloc::Global;
 use std::cmp::Ordering;
 use std::marker::Model;
 
-/// The greatest number of code points in a text that has an entry.
-const LONGEST: usize = 6;
-
 /// Contractions and their elements, in the order of the texts. Contracts see the map of them.
 #[derive(Drop)]
 pub(crate) struct Contractions {
@@ -95,13 +92,14 @@ impl Contractions {
         Ok(())
     }
 
-    /// The longest one that begins a text, and its elements.
-    pub(crate) fn longest(&self, text: &[u32]) -> Option<(usize, &[Element])>
-        requires { (long : ListOf ℕ) → map.contains_key self.now long ≡ true → length long ≤ 6 }
+    /// The longest one that begins a text, and its elements, where none of more than `most` code
+    /// points does.
+    pub(crate) fn longest(&self, text: &[u32], most: usize) -> Option<(usize, &[Element])>
+        requires { HasNoLonger self.now text.now most }
         ensures { MatchOption result (HasNoLonger self.now text.now 1)
             (λ found. IsLongest self.now text.now found.0 found.1.now) }
     {
-        let mut len = text.len().min(LONGEST);
+        let mut len = text.len().min(most);
         while len >= 2 {
             if let Some(elements) = self.get(&text[..len]) {
                 return Some((len, elements));

@@ -5,13 +5,14 @@ ghost use Rattle.std.specs.FinMap as map;
 ghost use Rattle.std.specs.List.{All};
 ghost use Rattle.mc_allkeys.specs.Keys.{entries_in};
 ghost use Rattle.mc_allkeys.specs.Longest.{HasNoLonger, IsLongest};
-ghost use Rattle.mc_allkeys.specs.Singles.{is_head_in};
+ghost use Rattle.mc_allkeys.specs.Singles.{reach_in};
 ghost use Rattle.mc_allkeys.specs.Sound.{HasWeights, IsSound};
-ghost use Rattle.mc_allkeys.specs.Table.{contractions_of, implicit_of};
+ghost use Rattle.mc_allkeys.specs.Table.{contractions_of, implicit_of, start_of};
 
 use crate::contractions::Contractions;
 use crate::element::{Element, read_weights};
-use crate::range::{Range, implicit_of};
+use crate::range::Range;
+use crate::ranges::Ranges;
 use crate::singles::Singles;
 use mc_base::{List, NoMemory, Weights};
 use std::alloc::Global;
@@ -23,14 +24,15 @@ use std::marker::Model;
 pub struct Keys {
     singles: Singles,
     contractions: Contractions,
-    ranges: Vec<Range>,
+    ranges: Ranges,
     ghost sized: { (text : ListOf ℕ) → map.contains_key contractions text ≡ true →
         (2 ≤ length text) × (length text ≤ 6) },
-    ghost heads: { (code : ℕ) (rest : ListOf ℕ) →
-        map.contains_key contractions (code ∷ rest) ≡ true → is_head_in singles code ≡ true },
+    ghost reaches: { (code : ℕ) (rest : ListOf ℕ) →
+        map.contains_key contractions (code ∷ rest) ≡ true →
+        length (code ∷ rest) ≤ reach_in singles code },
     ghost few: { map.len contractions < 2 ^ 32 },
     ghost sound: { IsSound
-        (record { entries = entries_in singles contractions; ranges = ranges.items }) },
+        (record { entries = entries_in singles contractions; ranges = ranges }) },
 }
 
 impl Model for Keys {
@@ -54,7 +56,7 @@ impl Model for Keys {
 
     ghost view = { λ keys. record {
       entries = entries_in keys.singles keys.contractions;
-      ranges = keys.ranges.items;
+      ranges = keys.ranges;
     } };
 }
 
@@ -67,7 +69,7 @@ impl Keys {
         Ok(Keys {
             singles: Singles::new(alloc)?,
             contractions: Contractions::new(alloc),
-            ranges: Vec::new(alloc),
+            ranges: Ranges::new(alloc),
         })
     }
 
@@ -88,11 +90,11 @@ impl Keys {
         let [first, ..] = text else {
             return None;
         };
-        if self.singles.is_head(*first) {
-            self.contractions.longest(text)
-        } else {
-            None
+        let reach = self.singles.reach(*first);
+        if reach < 2 {
+            return None;
         }
+        self.contractions.longest(text, reach)
     }
 
     /// The base of a code point that a range of implicit weights covers, and its number from the
@@ -100,7 +102,7 @@ impl Keys {
     pub fn implicit_base(&self, c: u32) -> Option<(u16, u32)>
         ensures { result ≡ implicit_of self.now.ranges c }
     {
-        implicit_of(self.ranges.as_slice(), c)
+        self.ranges.implicit_of(c)
     }
 
     /// How many contractions there are.
@@ -122,7 +124,7 @@ impl Keys {
     pub(crate) fn sound(&self)
         ensures { IsSound self.now }
     {
-        let _ranges = self.ranges.as_slice();
+        let _count = self.contractions.len();
     }
 
     /// Whether a text has an entry.
@@ -178,7 +180,7 @@ impl Keys {
         }
         let key = Weights::from_slice(alloc, text)?;
         let elements = List::from_slice(alloc, elements)?;
-        self.singles.mark_head(text[0])?;
+        self.singles.note_reach(text[0], text.len())?;
         self.contractions.put(key, elements)
     }
 
@@ -188,15 +190,22 @@ impl Keys {
             ((self.new.entries ≡ self.old.entries)
             × (self.new.ranges ≡ self.old.ranges ++ range ∷ [])) }
     {
-        self.ranges.push(range)?;
-        Ok(())
+        self.ranges.push(range)
     }
 
-    /// The ranges in file order.
-    pub(crate) fn ranges(&self) -> &[Range]
-        ensures { result.now ≡ self.now.ranges }
+    /// Makes ready for the look-up of code points by the ranges; the table stays the same.
+    pub(crate) fn index_ranges(&mut self) -> Result<(), NoMemory>
+        ensures { self.new ≡ self.old }
     {
-        self.ranges.as_slice()
+        self.ranges.index()
+    }
+
+    /// Where the numbering of a base starts: at the first code point of its first range, else at
+    /// another one.
+    pub(crate) fn start_of(&self, base: u16, other: u32) -> u32
+        ensures { result ≡ start_of self.now.ranges base other }
+    {
+        self.ranges.start_of(base, other)
     }
 
     /// The same table.
@@ -205,7 +214,7 @@ impl Keys {
     {
         let singles = self.singles.copy(alloc)?;
         let contractions = self.contractions.copy(alloc)?;
-        let ranges = Vec::from_slice(alloc, self.ranges.as_slice())?;
+        let ranges = self.ranges.copy(alloc)?;
         Ok(Keys {
             singles,
             contractions,
@@ -215,6 +224,6 @@ impl Keys {
 
     /// What it takes its memory from.
     pub(crate) fn allocator(&self) -> Global {
-        *self.ranges.allocator()
+        self.ranges.allocator()
     }
 }

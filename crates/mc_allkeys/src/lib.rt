@@ -6,9 +6,9 @@
 //! lines, `specs/Faults.antt` their faults, `specs/KeysFile.antt` what a file says and when it is
 //! refused.
 //!
-//! Read `keys`, the table; then `singles` with its `page`s, `contractions` and `range`, by which it
-//! is held, and `put_all`; then `cut`, `codes`, `elements`, `range_line`, `line` and `reader`, by
-//! which a file is read.
+//! Read `keys`, the table; then `singles` with its `page`s, `contractions`, and `ranges` with their
+//! `starts` and `steps`, by which it is held, and `put_all`; then `cut`, `codes`, `elements`,
+//! `range_line`, `line` and `reader`, by which a file is read.
 #![tactic(auto)]
 
 mod codes;
@@ -24,8 +24,11 @@ mod page;
 mod put_all;
 mod range;
 mod range_line;
+mod ranges;
 mod reader;
 mod singles;
+mod starts;
+mod steps;
 
 pub use element::Element;
 pub use fault::KeysFault;

@@ -13,18 +13,18 @@ pub(crate) struct Part {
     pub(crate) len: u32,
 }
 
-/// What is kept for a code point: where its elements are, if it has an entry of its own, and
-/// whether a contraction begins with it.
+/// What is kept for a code point: where its elements are, if it has an entry of its own, and how
+/// many code points the contractions have, at most, that begin with it.
 #[derive(Clone, Copy)]
 pub(crate) struct Cell {
     pub(crate) part: Option<Part>,
-    pub(crate) is_head: bool,
+    pub(crate) reach: u8,
 }
 
 /// The cell of a code point of which the table says nothing.
 pub(crate) const NO_CELL: Cell = Cell {
     part: None,
-    is_head: false,
+    reach: 1,
 };
 
 /// The cells of up to 256 code points in a row; what is behind the last one is empty. A page

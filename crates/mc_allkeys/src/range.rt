@@ -1,5 +1,6 @@
+ghost use Rattle.std.specs.List.{find};
 ghost use Rattle.std.specs.Prelude.{◌≡◌};
-ghost use Rattle.mc_allkeys.specs.Table.{covers, start_of, implicit_of};
+ghost use Rattle.mc_allkeys.specs.Table.{covers};
 
 /// A range of implicit weights, as a line of the file says it: the code points from the first to
 /// the last one are numbered for a base (UTS #10, 9.2 and 10.1.3).
@@ -22,27 +23,13 @@ impl Range {
     }
 }
 
-/// Where the numbering of a base starts: at the first code point of its first range, else at
-/// another one.
-pub(crate) fn start_of(ranges: &[Range], base: u16, other: u32) -> u32
-    ensures { result ≡ start_of ranges.now base other }
-{
-    for range in ranges {
-        if range.base == base {
-            return range.first;
-        }
-    }
-    other
-}
-
-/// The base of a code point, and its number from the start of that base: its first range decides.
-pub(crate) fn implicit_of(ranges: &[Range], code: u32) -> Option<(u16, u32)>
-    ensures { result ≡ implicit_of ranges.now code }
+/// The first range that covers a code point.
+pub(crate) fn first_covering(ranges: &[Range], code: u32) -> Option<Range>
+    ensures { result ≡ find (covers code) ranges.now }
 {
     for range in ranges {
         if range.covers(code) {
-            let start = start_of(ranges, range.base, range.first);
-            return Some((range.base, code.saturating_sub(start)));
+            return Some(*range);
         }
     }
     None

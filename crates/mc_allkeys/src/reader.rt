@@ -11,7 +11,7 @@ use crate::element::Element;
 use crate::fault::KeysFault;
 use crate::keys::Keys;
 use crate::line::{Kind, read_line};
-use crate::range::{Range, start_of};
+use crate::range::Range;
 use mc_base::{LineReader, List, NoMemory, Weights};
 use std::alloc::Global;
 
@@ -26,6 +26,25 @@ const MOST_CONTRACTIONS: u32 = 4096;
 /// without entries a base, as `@implicitweights 17000..18AFF; FB00`; other lines that begin with
 /// `@` say nothing. The first line with a fault decides.
 pub fn read_allkeys(alloc: Global, text: &[u8]) -> Result<Keys, KeysFault>
+    requires { length text.now < 2 ^ 32 }
+    ensures lines { MatchResult result
+        (λ keys. IsKeysOf (lines_of text.now) keys)
+        (λ fault. IsKeysFault (lines_of text.now) fault) }
+    ensures outcome { MatchResult result
+        (λ keys. keys_outcome text.now ≡ Ok keys)
+        (λ fault. HasFault (keys_outcome text.now) fault) }
+{
+    match read_lines(alloc, text) {
+        Ok(mut keys) => match keys.index_ranges() {
+            Ok(()) => Ok(keys),
+            Err(NoMemory) => Err(KeysFault::NoMemory),
+        },
+        Err(fault) => Err(fault),
+    }
+}
+
+/// The table that the lines say.
+fn read_lines(alloc: Global, text: &[u8]) -> Result<Keys, KeysFault>
     requires { length text.now < 2 ^ 32 }
     ensures lines { MatchResult result
         (λ keys. IsKeysOf (lines_of text.now) keys)
@@ -83,7 +102,7 @@ fn take_range(keys: &mut Keys, number: u32, range: Range) -> Result<(), KeysFaul
         × (keys.new ≡ with_line keys.old (Ranged range)))
         (λ fault. HasLineFault (Ranged range) keys.old number fault) }
 {
-    if !fits(keys.ranges(), range) {
+    if !fits(keys, range) {
         return Err(KeysFault::BadLine(number));
     }
     keys.add_range(range)?;
@@ -92,10 +111,10 @@ fn take_range(keys: &mut Keys, number: u32, range: Range) -> Result<(), KeysFaul
 
 /// Whether a range ends at or above its start, and lies within 8000 code points from the start of
 /// its base.
-fn fits(ranges: &[Range], range: Range) -> bool
-    ensures { result ≡ range_fits ranges.now range }
+fn fits(keys: &Keys, range: Range) -> bool
+    ensures { result ≡ range_fits keys.now.ranges range }
 {
-    let start = start_of(ranges, range.base, range.first);
+    let start = keys.start_of(range.base, range.first);
     range.first <= range.last && start <= range.first && range.last - start <= 0x7FFF
 }
 

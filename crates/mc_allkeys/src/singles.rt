@@ -1,9 +1,9 @@
-ghost use Rattle.std.specs.Prelude.{◌≡◌, ◌==◌, ◌≤◌, ◌<◌, ℕ, List, [], Some, None, true, false};
+ghost use Rattle.std.specs.Prelude.{◌≡◌, ◌==◌, ◌≤◌, ◌<◌, ℕ, List, [], Some, None};
 ghost use Rattle.std.specs.Prelude.{length, option_map, if◌then◌else◌, IfOk, OnOk, OnErr};
 ghost use Rattle.std.specs.Prelude.{MatchOption};
 ghost use Rattle.std.specs.Option.{option_map_or};
 ghost use Rattle.mc_allkeys.specs.Cells.{cell_at, part_of, IsPartOf};
-ghost use Rattle.mc_allkeys.specs.Singles.{single_in, is_head_in};
+ghost use Rattle.mc_allkeys.specs.Singles.{single_in, reach_in};
 
 use crate::element::Element;
 use crate::page::{Cell, NO_CELL, Page, Part};
@@ -37,10 +37,10 @@ impl Model for Singles {
 
 impl Singles {
     /// No entries.
-    #[tactic(auto, unfolding(crate::specs::Singles::single_in, crate::specs::Singles::is_head_in))]
+    #[tactic(auto, unfolding(crate::specs::Singles::single_in, crate::specs::Singles::reach_in))]
     pub(crate) fn new(alloc: Global) -> Result<Singles, NoMemory>
         ensures none { IfOk result (λ singles. (code : ℕ) → single_in singles code ≡ None) }
-        ensures no_heads { IfOk result (λ singles. (code : ℕ) → is_head_in singles code ≡ false) }
+        ensures no_reach { IfOk result (λ singles. (code : ℕ) → reach_in singles code ≡ 1) }
     {
         let mut pages = Vec::new(alloc);
         for _ in 0..PAGE_COUNT {
@@ -62,7 +62,7 @@ impl Singles {
     }
 
     /// The elements of a code point's entry.
-    #[tactic(auto, unfolding(crate::specs::Singles::single_in, crate::specs::Singles::is_head_in))]
+    #[tactic(auto, unfolding(crate::specs::Singles::single_in, crate::specs::Singles::reach_in))]
     pub(crate) fn get(&self, code: u32) -> Option<&[Element]>
         ensures { MatchOption result (single_in self.now code ≡ None)
             (λ elements. single_in self.now code ≡ Some elements.now) }
@@ -72,38 +72,43 @@ impl Singles {
         Some(&self.elements[start..start + part.len as usize])
     }
 
-    /// Whether a contraction begins with a code point.
-    #[tactic(auto, unfolding(crate::specs::Singles::single_in, crate::specs::Singles::is_head_in))]
-    pub(crate) fn is_head(&self, code: u32) -> bool
-        ensures { result ≡ is_head_in self.now code }
+    /// How many code points the contractions have, at most, that begin with a code point; 1 where
+    /// none does.
+    #[tactic(auto, unfolding(crate::specs::Singles::single_in, crate::specs::Singles::reach_in))]
+    pub(crate) fn reach(&self, code: u32) -> usize
+        ensures { result ≡ reach_in self.now code }
     {
-        self.cell(code).is_head
+        self.cell(code).reach as usize
     }
 
-    /// Marks a code point as the first of a contraction.
-    #[tactic(auto, unfolding(crate::specs::Singles::single_in, crate::specs::Singles::is_head_in))]
-    pub(crate) fn mark_head(&mut self, code: u32) -> Result<(), NoMemory>
-        requires { code ≤ 0x10FFFF }
+    /// Notes how many code points a contraction has that begins with a code point.
+    #[tactic(auto, unfolding(crate::specs::Singles::single_in, crate::specs::Singles::reach_in))]
+    pub(crate) fn note_reach(&mut self, code: u32, len: usize) -> Result<(), NoMemory>
+        requires is_code { code ≤ 0x10FFFF }
+        requires short { len ≤ 6 }
         ensures entries { (c : ℕ) → single_in self.new c ≡ single_in self.old c }
-        ensures kept { (c : ℕ) → is_head_in self.old c ≡ true → is_head_in self.new c ≡ true }
-        ensures marked { OnOk result (is_head_in self.new code ≡ true) }
+        ensures kept { (c : ℕ) → reach_in self.old c ≤ reach_in self.new c }
+        ensures noted { OnOk result (len ≤ reach_in self.new code) }
     {
+        if len <= self.reach(code) {
+            return Ok(());
+        }
         let cell = Cell {
-            is_head: true,
+            reach: len as u8,
             ..self.cell(code)
         };
         self.put_cell(code, cell)
     }
 
     /// Gives a code point these elements.
-    #[tactic(auto, unfolding(crate::specs::Singles::single_in, crate::specs::Singles::is_head_in))]
+    #[tactic(auto, unfolding(crate::specs::Singles::single_in, crate::specs::Singles::reach_in))]
     pub(crate) fn put(&mut self, code: u32, elements: &[Element]) -> Result<(), NoMemory>
         requires { code ≤ 0x10FFFF }
         ensures entries { OnOk result ((c : ℕ) → single_in self.new c
             ≡ (if c == code then Some elements.now else single_in self.old c)) }
         ensures unchanged { OnErr result
             ((c : ℕ) → single_in self.new c ≡ single_in self.old c) }
-        ensures heads { (c : ℕ) → is_head_in self.new c ≡ is_head_in self.old c }
+        ensures reach { (c : ℕ) → reach_in self.new c ≡ reach_in self.old c }
     {
         let part = self.append(elements)?;
         let cell = Cell {
@@ -147,7 +152,7 @@ impl Singles {
         ensures within { IfOk result
             (λ part. IsPartOf (length self.new.shared) (Some part)) }
         ensures entries { (c : ℕ) → single_in self.new c ≡ single_in self.old c }
-        ensures heads { (c : ℕ) → is_head_in self.new c ≡ is_head_in self.old c }
+        ensures reach { (c : ℕ) → reach_in self.new c ≡ reach_in self.old c }
     {
         let start = count(self.elements.len())?;
         let len = count(elements.len())?;

@@ -1,4 +1,5 @@
 use mc_allkeys::{KeysFault, read_allkeys};
+use mc_base::NoMemory;
 use std::alloc::Global;
 
 /// A fault that a file has.
@@ -8,6 +9,7 @@ enum Fault {
     TooLong(u32),
     TooMany(u32),
     Repeated(u32),
+    TooManyContractions(u32),
     Other,
 }
 
@@ -107,7 +109,7 @@ const ROWS: [Row; 17] = [
 ];
 
 fn fault_of(alloc: Global, text: &[u8]) -> Option<Fault> {
-    if text.len() > 1000 {
+    if text.len() > 1_000_000 {
         return Some(Fault::Other);
     }
     match read_allkeys(alloc, text) {
@@ -116,6 +118,7 @@ fn fault_of(alloc: Global, text: &[u8]) -> Option<Fault> {
         Err(KeysFault::TooLongContraction(line)) => Some(Fault::TooLong(line)),
         Err(KeysFault::TooManyElements(line)) => Some(Fault::TooMany(line)),
         Err(KeysFault::Repeated(line)) => Some(Fault::Repeated(line)),
+        Err(KeysFault::TooManyContractions(line)) => Some(Fault::TooManyContractions(line)),
         Err(_) => Some(Fault::Other),
     }
 }
@@ -125,4 +128,46 @@ fn faults_are_told(rt: HostRuntime) {
     for row in &ROWS {
         assert!(rt; fault_of(rt.alloc(), row.text) == row.fault, "{}", row.why);
     }
+}
+
+/// The hexadecimal digits.
+const DIGITS: [u8; 16] = *b"0123456789ABCDEF";
+
+/// The last hexadecimal digit of a number.
+fn digit(number: u32) -> u8 {
+    DIGITS[(number % 16) as usize]
+}
+
+/// A file of so many contractions, each of U+0061 and a code point of four digits.
+fn contractions(alloc: Global, count: u32) -> Result<Vec<u8>, NoMemory> {
+    let mut text = Vec::new(alloc);
+    for number in 0..count {
+        text.extend_from_slice(b"0061 ".as_slice())?;
+        text.push(digit(number / 4096))?;
+        text.push(digit(number / 256))?;
+        text.push(digit(number / 16))?;
+        text.push(digit(number))?;
+        text.extend_from_slice(b" ; [.1.2.3]\n".as_slice())?;
+    }
+    Ok(text)
+}
+
+/// The fault of a file of so many contractions.
+fn fault_of_contractions(alloc: Global, count: u32) -> Option<Fault> {
+    match contractions(alloc, count) {
+        Ok(text) => fault_of(alloc, text.as_slice()),
+        Err(NoMemory) => Some(Fault::Other),
+    }
+}
+
+#[test]
+fn contractions_are_counted(rt: HostRuntime) {
+    assert!(rt;
+        fault_of_contractions(rt.alloc(), 4096).is_none(),
+        "4,096 contractions are taken"
+    );
+    assert!(rt;
+        fault_of_contractions(rt.alloc(), 4097) == Some(Fault::TooManyContractions(4097)),
+        "one more is refused, at its line"
+    );
 }

@@ -1,8 +1,9 @@
 -- The elements of a character that has no entry: UTS #10, 10.1.3.
-use Rattle.std.specs.Prelude.{ℕ, ◌+◌, ◌-◌, ◌/◌, ◌%◌, nat_lt, List, [], ◌∷◌, if◌then◌else◌}
+use Rattle.std.specs.Prelude.{ℕ, ◌+◌, ◌-◌, ◌/◌, ◌%◌, ◌&&◌, Bool, false, not, nat_lt, List, []}
+use Rattle.std.specs.Prelude.{◌∷◌, if◌then◌else◌}
 use Rattle.std.specs.FinMap as map
 use Rattle.std.specs.List.{flat_map}
-use Rattle.std.specs.Option.{option_map_or}
+use Rattle.std.specs.Option.{option_map_or, is_some}
 use Rattle.mc_allkeys.specs.Table.{ElementTable, Entries, implicit_of}
 use Rattle.mc_allkeys.specs.declared.element.Element.{Element}
 use Rattle.mc_rules.specs.Bases.{old_base, new_base}
@@ -47,3 +48,9 @@ unfoldable pub outside_of : ElementTable → UcaFamily → ℕ → List Element
 outside_of table Uca4 code = outside_old code
 outside_of table Uca520 code = implicit (old_base code) code
 outside_of table Uca9 code = outside_new table code
+
+-- whether a code point without an entry takes the elements of its jamo: a syllable that no range
+-- covers, in version 9.0.0
+abbrev pub takes_jamo : ElementTable → UcaFamily → ℕ → Bool
+takes_jamo table Uca9 code = not (is_some (implicit_of table.ranges code)) && is_syllable code
+takes_jamo table _ code = false

@@ -4,6 +4,7 @@ pub mod Places
 pub mod PieceFacts
 pub mod TailSteps
 pub mod TailPlaces
+pub mod HeadPlaces
 pub mod Filters
 pub mod Fronts
 pub mod SetLaw

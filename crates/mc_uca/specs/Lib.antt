@@ -7,5 +7,6 @@ pub mod Reach
 pub mod Inner
 pub mod Streams
 pub mod Inserts
+pub mod Heads
 pub mod Fault
 pub mod Collated

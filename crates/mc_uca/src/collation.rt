@@ -1,13 +1,16 @@
 ghost use Rattle.mc_allkeys.specs.Sound.{IsSound};
 ghost use Rattle.mc_charset.specs.Names.{is_unicode_set};
 ghost use Rattle.mc_order.specs.Floor.{weighs};
+ghost use Rattle.mc_order.specs.Meaning.{flat_list};
 ghost use Rattle.mc_order.specs.Tails.{tails_of};
 ghost use Rattle.mc_uca.specs.Fault.{HasUcaFault};
+ghost use Rattle.mc_uca.specs.Heads.{heads_of};
 ghost use Rattle.mc_uca.specs.Kind.{levels_of, pad_of};
 ghost use Rattle.mc_uca.specs.UcaMeaning.{space_by, space_fits, uca_meaning};
 ghost use Rattle.mc_uca.specs.Weighing.{set_contractions, uca_list};
 ghost use Rattle.std.specs.Prelude.{◌≡◌, ◌≤◌, ◌<◌, ◌^◌, ◌∷◌, [], length, IsTrue, MatchResult};
 
+use crate::findings::Findings;
 use crate::weigher::Weigher;
 use crate::{UcaFault, UcaKind};
 use mc_allkeys::{Keys, keys_law};
@@ -23,21 +26,22 @@ use std::cmp::Ordering;
 #[derive(Drop)]
 pub struct UcaCollation {
     weigher: Weigher,
-    space: u32,
-    each_weighs: bool,
-    tails: Vec<Weights>,
+    found: Findings,
     ghost sound: { IsSound weigher.keys },
     ghost fits: { IsTrue (space_fits (pad_of weigher.kind)
         (uca_list weigher.charset weigher.kind weigher.keys 1 (0x20 ∷ []))) },
-    ghost space_is: { space ≡ space_by (pad_of weigher.kind)
+    ghost space_is: { found.space ≡ space_by (pad_of weigher.kind)
         (uca_list weigher.charset weigher.kind weigher.keys 1 (0x20 ∷ [])) },
-    ghost weighs_is: { each_weighs ≡ weighs weigher.charset
+    ghost weighs_is: { found.each_weighs ≡ weighs weigher.charset
         (uca_list weigher.charset weigher.kind weigher.keys 1)
         (set_contractions weigher.charset weigher.keys.entries) },
-    ghost tails_are: { tails.items ≡ tails_of
+    ghost tails_are: { found.tails.items ≡ tails_of
         (uca_list weigher.charset weigher.kind weigher.keys 1)
         (set_contractions weigher.charset weigher.keys.entries) },
-    ghost few_tails: { length tails.items < 2 ^ 32 },
+    ghost few_tails: { length found.tails.items < 2 ^ 32 },
+    ghost heads_are: { found.heads.items ≡ heads_of
+        (flat_list (uca_meaning weigher.charset weigher.kind weigher.keys))
+        (set_contractions weigher.charset weigher.keys.entries) },
 }
 
 impl UcaCollation {
@@ -60,18 +64,8 @@ impl UcaCollation {
     {
         let weigher = Weigher::new(alloc, charset, kind, keys)?;
         keys_law(&weigher.keys);
-        let space = weigher.space()?;
-        let each_weighs = weigher.weighs();
-        let tails = weigher.tails(alloc)?;
-        if tails.len() > u32::MAX as usize {
-            return Err(UcaFault::NoMemory);
-        }
-        Ok(UcaCollation {
-            weigher,
-            space,
-            each_weighs,
-            tails,
-        })
+        let found = weigher.findings(alloc)?;
+        Ok(UcaCollation { weigher, found })
     }
 }
 
@@ -89,7 +83,7 @@ impl Collation for UcaCollation {
     }
 
     fn space(&self) -> u32 {
-        self.space
+        self.found.space
     }
 
     fn levels(&self) -> u8 {
@@ -105,7 +99,7 @@ impl Collation for UcaCollation {
     }
 
     fn compare(&self, a: &[u8], b: &[u8]) -> Ordering {
-        self.weigher.compare(a, b, self.space)
+        self.weigher.compare(a, b, self.found.space)
     }
 
     fn same_char(&self, c: u32, d: u32) -> bool {
@@ -115,21 +109,21 @@ impl Collation for UcaCollation {
 
     fn safe(&self, c: u32) -> bool {
         chars_law();
-        self.weigher.is_safe(c)
+        self.weigher.is_safe(self.found.heads.as_slice(), c)
     }
 
     fn floor(&self, k: u32) -> u32 {
-        if self.each_weighs { k } else { 0 }
+        if self.found.each_weighs { k } else { 0 }
     }
 
     fn tail_count(&self) -> u32 {
-        self.tails.len() as u32
+        self.found.tails.len() as u32
     }
 
     fn tail(&self, i: u32) -> &[u32] {
         let place = i as usize;
-        if place < self.tails.len() {
-            self.tails[place].as_slice()
+        if place < self.found.tails.len() {
+            self.found.tails[place].as_slice()
         } else {
             &[]
         }

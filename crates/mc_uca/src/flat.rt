@@ -1,7 +1,7 @@
 ghost use Rattle.mc_allkeys.specs.Levels.{level_weights};
 ghost use Rattle.mc_order.specs.Meaning.{joined_levels, separator};
 ghost use Rattle.mc_uca.specs.Streams.{behind_by};
-ghost use Rattle.std.specs.Prelude.{◌≡◌, ◌≤◌, ◌<◌, ◌++◌, ◌∷◌, [], Some, None};
+ghost use Rattle.std.specs.Prelude.{◌≡◌, ◌≤◌, ◌<◌, ◌++◌, ◌∷◌, [], Some, None, MatchOption};
 
 use crate::stream::{ElementStream, LevelWeights};
 use mc_order::WeightStream;
@@ -22,6 +22,20 @@ impl<S: ElementStream + Drop> WeightStream for FlatWeights<S> {
         if let Some(weight) = self.first.next_weight() {
             return Some(weight);
         }
+        self.next_level()
+    }
+}
+
+impl<S: ElementStream + Drop> FlatWeights<S> {
+    /// Goes on to the next level, where the first one has no more weights: the separator before it.
+    fn next_level(&mut self) -> Option<u32>
+        requires { ⟦<LevelWeights<S> as WeightStream>⟧.left self.old.first ≡ [] }
+        ensures { MatchOption result
+            ((⟦<FlatWeights<S> as WeightStream>⟧.left self.old ≡ [])
+            × (⟦<FlatWeights<S> as WeightStream>⟧.left self.new ≡ []))
+            (λ weight. ⟦<FlatWeights<S> as WeightStream>⟧.left self.old
+            ≡ weight ∷ ⟦<FlatWeights<S> as WeightStream>⟧.left self.new) }
+    {
         match self.second.take() {
             Some(second) => {
                 self.first = second;
@@ -31,9 +45,7 @@ impl<S: ElementStream + Drop> WeightStream for FlatWeights<S> {
             None => None,
         }
     }
-}
 
-impl<S: ElementStream + Drop> FlatWeights<S> {
     /// The weights of so many levels of these elements, each level's by a stream of its own.
     pub(crate) fn new(first: S, second: S, third: S, levels: u8) -> FlatWeights<S>
         requires some { 1 ≤ levels }

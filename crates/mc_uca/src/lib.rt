@@ -9,8 +9,8 @@
 //! Read `kind`, `fault` and `collation`; then `weigher`, which has the table, `reach`, `inner`,
 //! `codes` and `piece`, by which a text is cut, `pending`, `text` and `stream`, which give its
 //! elements and its weights one after the other, `flat` and `weights`, level by level; then
-//! `compare`, `chars`, `put`, and `code_elements`, `tails`, `floor` and `space`, by which a
-//! collation is made.
+//! `compare`, `chars`, `put`, and `code_elements`, `tails`, `heads`, `floor`, `space` and
+//! `findings`, by which a collation is made.
 #![tactic(auto)]
 
 mod chars;
@@ -19,8 +19,10 @@ mod codes;
 mod collation;
 mod compare;
 mod fault;
+mod findings;
 mod flat;
 mod floor;
+mod heads;
 mod inner;
 mod kind;
 mod laws;

@@ -107,7 +107,7 @@ impl Weigher {
 }
 
 /// Puts a list in its place among ascending ones; one that is there stays once.
-fn insert_list(lists: &mut Vec<Weights>, list: Weights) -> Result<(), NoMemory>
+pub(crate) fn insert_list(lists: &mut Vec<Weights>, list: Weights) -> Result<(), NoMemory>
     requires { AreAscending lists.old.items }
     ensures { OnOk result (lists.new.items ≡ insert_list list lists.old.items) }
 {

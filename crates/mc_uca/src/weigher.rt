@@ -44,8 +44,7 @@ impl Weigher {
         ensures kind { IfOk result (λ weigher. weigher.kind ≡ kind) }
         ensures keys { IfOk result (λ weigher. weigher.keys ≡ keys) }
     {
-        let reach = Reach::of(alloc, &keys)?;
-        let inner = Inner::of(alloc, &keys)?;
+        let (reach, inner) = marks_of(alloc, &keys)?;
         Ok(Weigher {
             charset,
             kind,
@@ -69,4 +68,14 @@ impl Weigher {
             }
         }
     }
+}
+
+/// What is noted of the code points in a table's contractions.
+fn marks_of(alloc: Global, keys: &Keys) -> Result<(Reach, Inner), NoMemory>
+    ensures { let contractions = contractions_of keys.now.entries in
+        IfOk result (λ marks. Reaches contractions marks.0 × MarksInner contractions marks.1) }
+{
+    let reach = Reach::of(alloc, keys)?;
+    let inner = Inner::of(alloc, keys)?;
+    Ok((reach, inner))
 }

@@ -40,11 +40,7 @@ impl Weigher {
     {
         cut_law();
         piece_law();
-        FlatWeights::new(
-            self.char_elements(code),
-            self.char_elements(code),
-            self.char_elements(code),
-            self.kind.levels(),
-        )
+        let elements = self.char_elements(code);
+        FlatWeights::new(elements, elements, elements, self.kind.levels())
     }
 }

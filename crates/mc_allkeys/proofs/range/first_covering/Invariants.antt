@@ -2,7 +2,7 @@
 use Rattle.std.proofs.Common.{◌≡◌, drop}
 use Rattle.std.specs.List.{find}
 use Rattle.mc_allkeys.specs.Table.{covers}
-use Rattle.mc_allkeys.proofs.range.implicit_of.Given as goal
+use Rattle.mc_allkeys.proofs.range.first_covering.Given as goal
 
 abbrev pub invariant-loop-range : goal.invariant-loop-range
 invariant-loop-range l =

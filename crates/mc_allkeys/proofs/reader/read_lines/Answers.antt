@@ -1,7 +1,7 @@
 -- A line that is taken comes to those before it; one that isn't is the first with a fault.
 use Rattle.std.proofs.lemmas.Result.{err_from_is_err_and}
 use Rattle.mc_allkeys.proofs.ReadLemmas.{read_more, read_fault, read_all}
-use Rattle.mc_allkeys.proofs.reader.read_allkeys.Goals as goal
+use Rattle.mc_allkeys.proofs.reader.read_lines.Goals as goal
 
 pub loop-line-preserved : goal.loop-line-preserved
 loop-line-preserved c =
