@@ -1,0 +1,13 @@
+-- The bytes so far are digits, which write the value so far; it isn't too great.
+use Rattle.std.proofs.Common.{◌≡◌, ◌≤◌, take, true}
+use Rattle.std.specs.Char.{is_ascii_digit}
+use Rattle.std.specs.List.{list_all}
+use Rattle.std.specs.Str.Parse.{digits_value}
+use Rattle.mc_rows.proofs.number.magnitude.Given as goal
+
+abbrev pub invariant-loop-digit : goal.invariant-loop-digit
+invariant-loop-digit l = record {
+  value : l.value ≡ digits_value 10 (take l.digit-index l.digits);
+  small : l.value ≤ l.most;
+  digits : list_all is_ascii_digit (take l.digit-index l.digits) ≡ true;
+}
