@@ -12,10 +12,10 @@ use Rattle.mc_convert.specs.declared.repertoire.Repertoire.{Repertoire}
 use Rattle.mc_convert.specs.declared.repertoire.Repertoire.TheVariants.{Ascii, Latin1, Bmp, Unicode, Bytes}
 use Rattle.mc_typing.specs.Operands.{has, has_in, repertoire_in}
 
-below_from : (a b : ℕ) → a < b → nat_lt a b ≡ true
+pub below_from : (a b : ℕ) → a < b → nat_lt a b ≡ true
 below_from a b h = grind (arith, common_steps)
 
-below_to : (a b : ℕ) → nat_lt a b ≡ true → a < b
+pub below_to : (a b : ℕ) → nat_lt a b ≡ true → a < b
 below_to a b h = grind (arith, common_steps)
 
 some_from : (o : Option (List ℕ)) → IsSome o → is_some o ≡ true
@@ -104,7 +104,7 @@ all_to s class (code ∷ codes) h = (
 )
 
 -- The least class that passes a test is the first one that does.
-not_true : (b : Bool) → (b ≡ true → ⊥) → b ≡ false
+pub not_true : (b : Bool) → (b ≡ true → ⊥) → b ≡ false
 not_true true h = absurd (h refl)
 not_true false h = refl
 

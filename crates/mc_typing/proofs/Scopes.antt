@@ -1,13 +1,12 @@
 -- The columns in scope are those of a lawful table.
-use Rattle.std.proofs.Common.{◌≡◌, ℕ, ◌≤◌, ◌<◌, ◌^◌, List, [], ◌∷◌, Option, None, Some, length, refl, subst, arith}
+use Rattle.std.proofs.Common.{◌≡◌, ℕ, ◌<◌, ◌^◌, List, [], Option, None, Some, length, refl, subst, arith}
 use Rattle.std.proofs.lemmas.Option.{get_or_from_slice_get, slice_get_within}
 use Rattle.std.specs.Prelude.{All, option_map, slice_get, unwrap_or}
 use Rattle.std.specs.Option.{option_and_then}
 use Rattle.mc_catalog.specs.declared.catalog.Catalog.{Catalog}
 use Rattle.mc_catalog.specs.declared.catalog.ColumnDecl.{ColumnDecl}
 use Rattle.mc_catalog.specs.declared.catalog.TableDecl.{TableDecl}
-use Rattle.mc_catalog.specs.Lawful.{IsLawful, IsLawfulTable, IsLawfulType}
-use Rattle.mc_catalog.specs.Limits.{most_columns}
+use Rattle.mc_catalog.specs.Lawful.{IsLawfulTable, IsLawfulType}
 use Rattle.mc_typing.specs.declared.scope.Scope.{Scope}
 use Rattle.mc_typing.specs.Scope.{IsScope, columns_of}
 

@@ -1,7 +1,7 @@
 -- Operands of typed expressions keep to what their aggregate asks for, and so does it.
-use Rattle.std.proofs.Common.{◌≡◌, ◌⊎◌, ◌↔◌, ℕ, ◌<◌, ◌≤◌, List, [], ◌∷◌, length, refl, sym, ap, ◌∙◌, subst, inl, inr, arith}
+use Rattle.std.proofs.Common.{◌≡◌, ◌⊎◌, ◌<◌, List, length, refl, sym, ap, ◌∙◌, subst, inl, inr, arith}
 use Rattle.std.proofs.lemmas.List.Elements.{All-filter, All-map}
-use Rattle.std.specs.Prelude.{All, IfOk, IsTrue, Result, Ok, Err}
+use Rattle.std.specs.Prelude.{All, IfOk, Result, Ok, Err}
 use Rattle.std.specs.List.{Any}
 use Rattle.mc_charset.specs.Names.{bin_number}
 use Rattle.mc_charset.specs.declared.charset.Charset.{Charset}
@@ -10,7 +10,7 @@ use Rattle.mc_charset.specs.declared.collation_id.CollId.{CollId}
 use Rattle.mc_coerce.specs.Aggregate.{counted, takes_part}
 use Rattle.mc_coerce.specs.Sets.{bin_collation_of}
 use Rattle.mc_charset.specs.declared.charset.Charset.TheVariants.{Binary}
-use Rattle.mc_coerce.specs.Operand.{IsOperand, built_in_count}
+use Rattle.mc_coerce.specs.Operand.{IsOperand}
 use Rattle.mc_coerce.specs.declared.operand.Operand.{Operand}
 use Rattle.mc_catalog.specs.Lawful.{IsLawful}
 use Rattle.mc_catalog.specs.LookUp.{collation_set}

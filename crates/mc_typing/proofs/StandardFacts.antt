@@ -1,5 +1,5 @@
 -- The definitions at worked expressions, without declared collations: the connection is utf8mb4_bin.
-use Rattle.std.proofs.Common.{◌≡◌, ℕ, pos, [], ◌∷◌, List, None, Some, codes, refl, sym, ap, ◌∙◌}
+use Rattle.std.proofs.Common.{◌≡◌, ℕ, pos, [], ◌∷◌, List, None, Some, codes, sym, ap, ◌∙◌}
 use Rattle.std.specs.Prelude.{Err, Ok}
 use Prim.Native.String.{String}
 use Rattle.mc_charset.specs.Chars.{chars, chars_behind, is_spelled, spell, spell_all}

@@ -1,7 +1,8 @@
 -- The usual collation of a set as a number, and its set.
-use Rattle.std.proofs.Common.{◌≡◌, ℕ, suc, zero, ◌≤◌, ◌<◌, Bool, true, false, cond, List, [], ◌∷◌, ◌++◌, Option, None, Some, length, codes, drop, refl, sym, ap, ◌∙◌, subst, arith}
+use Rattle.std.proofs.Common.{◌≡◌, ℕ, suc, zero, ◌<◌, Bool, true, false, cond, List, [], ◌∷◌, ◌++◌, Option, None, Some, length, codes, drop, refl, sym, ap, ◌∙◌, subst, arith}
 use Rattle.std.proofs.lemmas.List.{take-append-drop}
-use Rattle.std.specs.Prelude.{◌≢◌, ◌↔◌, IsTrue, MatchOption, position, slice_get}
+use Rattle.std.proofs.lemmas.List.Quantifiers.{position-Some}
+use Rattle.std.specs.Prelude.{◌≢◌, ◌↔◌, IsTrue, MatchOption, position, slice_get, unwrap_or}
 use Rattle.std.specs.Str.{bytes_eq}
 use Rattle.mc_charset.specs.Names.{bin_name, bin_number, built_in_names, same_set}
 use Rattle.mc_charset.specs.declared.charset.Charset.{Charset}
@@ -52,7 +53,7 @@ bin_is set n e =
 
 -- The usual collation
 -- Sets are one where they have one name.
-abbrev AreNamed : Type 0
+abbrev pub AreNamed : Type 0
 AreNamed = (set other : Charset) → IsTrue (same_set set other) ↔ (set ≡ other)
 
 not_both : (b : Bool) → b ≡ false → IsTrue b → ⊥
@@ -120,3 +121,47 @@ bin_set c set h = subst (λ l. collation_set l (bin_number set) ≡ set) (fronte
 pub bin_within : (c : Catalog) (set : Charset) → IsLawful c → bin_number set < length c.collations
 bin_within c set h = subst (λ l. bin_number set < length l) (fronted c h)
     (front_within (drop 9 c.collations) set)
+
+-- The usual collation is one of the catalog, of its set.
+abbrev pub IsOfSet : Catalog → Charset → ℕ → Type 0
+IsOfSet c set n = (n < length c.collations) × (set ≡ collation_set c.collations n)
+
+pub bin_of_set : (c : Catalog) (set : Charset) → IsLawful c → IsOfSet c set (bin_number set)
+bin_of_set c set h = (bin_within c set h, sym (bin_set c set h))
+
+set_found : (collations : List CollDecl) (place : ℕ) (found : Charset)
+    → set_at collations place ≡ Some found → collation_set collations place ≡ found
+set_found collations place found e = ap (λ o. unwrap_or o Binary) e
+
+by_test : AreNamed → (c : Catalog) (set found : Charset) (place : ℕ) (b : Bool) → IsLawful c
+    → place < length c.collations → set_at c.collations place ≡ Some found
+    → same_set found set ≡ b → IsOfSet c set (cond b place (bin_number set))
+by_test named c set found place true h within e same =
+    (within, sym (set_found c.collations place found e ∙ (named found set).0 same))
+by_test named c set found place false h within e same = bin_of_set c set h
+
+by_found : AreNamed → (c : Catalog) (set : Charset) (place : ℕ) (found : Option Charset)
+    → IsLawful c → place < length c.collations → set_at c.collations place ≡ found
+    → IsOfSet c set (usual_at set place found)
+by_found named c set place None h within e = bin_of_set c set h
+by_found named c set place (Some found) h within e =
+    by_test named c set found place (same_set found set) h within e refl
+
+pub number_within : (collations : List CollDecl) (name : List ℕ) (place : ℕ)
+    → number_of collations name ≡ Some place → place < length collations
+number_within [] name place e = absurd (cc)
+number_within (d ∷ ds) name place e =
+    (position-Some (λ x. bytes_eq x.name name) (d ∷ ds) place d e).0
+
+by_number : AreNamed → (c : Catalog) (set : Charset) (number : Option ℕ) → IsLawful c
+    → number_of c.collations (usual_name set) ≡ number
+    → IsOfSet c set (usual_in c.collations set number)
+by_number named c set None h e = bin_of_set c set h
+by_number named c set (Some place) h e =
+    by_found named c set place (set_at c.collations place) h
+    (number_within c.collations (usual_name set) place e) refl
+
+pub usual_of_set : AreNamed → (c : Catalog) (set : Charset) → IsLawful c → IsOfSet c set (usual c set)
+unfolding usual
+usual_of_set named c set h =
+    by_number named c set (number_of c.collations (usual_name set)) h refl

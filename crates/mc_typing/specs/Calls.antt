@@ -17,22 +17,22 @@ use Rattle.mc_catalog.specs.declared.catalog.Catalog.{Catalog}
 use Rattle.mc_values.specs.Values.{greatest_string}
 use Rattle.mc_values.specs.declared.value.Value.TheVariants as value
 use Rattle.mc_typing.specs.declared.callee.Callee.{Callee}
-use Rattle.mc_typing.specs.declared.callee.Callee.TheVariants.{Of, Charset, Collation, Coercibility}
-use Rattle.mc_typing.specs.declared.callee.Callee.TheVariants.{Version, Weights, Aggregate}
+use Rattle.mc_typing.specs.declared.callee.Callee.TheVariants.{Of, Charset, Collation}
+use Rattle.mc_typing.specs.declared.callee.Callee.TheVariants.{Version, Aggregate}
 use Rattle.mc_typing.specs.declared.scope.Scope.{Scope}
 use Rattle.mc_typing.specs.declared.typed.Func.{Func}
-use Rattle.mc_typing.specs.declared.typed.Func.TheVariants.{Concat, ConcatWs, CharLength, Length}
-use Rattle.mc_typing.specs.declared.typed.Func.TheVariants.{Hex, Substring, Left, Right, TrimBoth}
-use Rattle.mc_typing.specs.declared.typed.Func.TheVariants.{TrimLeading, TrimTrailing, Lpad, Rpad}
-use Rattle.mc_typing.specs.declared.typed.Func.TheVariants.{Repeat, Reverse, Replace, Strcmp, Mod}
+use Rattle.mc_typing.specs.declared.typed.Func.TheVariants.{CharLength, Length}
+use Rattle.mc_typing.specs.declared.typed.Func.TheVariants.{Hex, Substring, Left, Right}
+use Rattle.mc_typing.specs.declared.typed.Func.TheVariants.{Lpad, Rpad}
+use Rattle.mc_typing.specs.declared.typed.Func.TheVariants.{Repeat, Strcmp, Mod}
 use Rattle.mc_typing.specs.declared.typed.Node.TheVariants.{Call, Const, WeightString}
 use Rattle.mc_typing.specs.declared.typed.Ty.{Ty}
 use Rattle.mc_typing.specs.declared.typed.Ty.TheVariants.{Int, Str}
 use Rattle.mc_typing.specs.declared.typed.TypedExpr.{TypedExpr}
-use Rattle.mc_typing.specs.Functions.{callee_of, takes}
+use Rattle.mc_typing.specs.Functions.{takes}
 use Rattle.mc_typing.specs.Literals.{int_const}
 use Rattle.mc_typing.specs.Messages.{collation_name, no_function, wrong_argument, wrong_count}
-use Rattle.mc_typing.specs.Operands.{is_number, is_text, of_collation, of_connection, of_usual}
+use Rattle.mc_typing.specs.Operands.{is_number, of_collation, of_connection, of_usual}
 use Rattle.mc_typing.specs.Operands.{operand_of}
 use Rattle.mc_typing.specs.Operators.{number_expr, some_text, together}
 

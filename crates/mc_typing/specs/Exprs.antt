@@ -1,14 +1,11 @@
 -- The typed expression of a tree, or its refusal: that of the first refused node, operands before
 -- their operation and from left to right.
-use Rattle.std.specs.Prelude.{ℕ, ◌+◌, pos, Bool, true, false, ◌&&◌, List, [], ◌∷◌, Option, Some, None}
-use Rattle.std.specs.Prelude.{Result, Ok, Err, codes, map}
-use Rattle.std.specs.List.{list_all}
-use Rattle.std.specs.Option.{option_map_or}
+use Rattle.std.specs.Prelude.{ℕ, ◌+◌, pos, Bool, true, false, List, [], ◌∷◌, Option, Some, None}
+use Rattle.std.specs.Prelude.{Result, Ok, Err, codes}
 use Rattle.mc_base.specs.Results.{result_and_then}
 use Rattle.mc_base.specs.declared.refusal.Refusal.{Refusal}
-use Rattle.mc_charset.specs.Chars.{is_spelled}
 use Rattle.mc_charset.specs.declared.charset.Charset.{Charset}
-use Rattle.mc_charset.specs.declared.charset.Charset.TheVariants.{Utf8mb4, Binary as SetBinary}
+use Rattle.mc_charset.specs.declared.charset.Charset.TheVariants.{Binary as SetBinary}
 use Rattle.mc_charset.specs.declared.collation_id.CollId.{CollId}
 use Rattle.mc_ast.specs.declared.expr.Expr.{Expr, fold-Expr}
 use Rattle.mc_ast.specs.declared.expr.Form.{Form-F}
@@ -157,14 +154,3 @@ parts (Form-F.SubstringFrom t start len) = t ∷ start ∷ option_before len []
 parts (Form-F.WeightString t cut) = t ∷ []
 parts (Form-F.Call name ts) = ts
 parts form = []
-
--- The form's own text of the script is UTF-8.
-abbrev pub has_utf8 : {X A : Type 0} → Form-F X A → Bool
-has_utf8 (Form-F.Str text) = is_spelled Utf8mb4 text
-has_utf8 (Form-F.National text) = is_spelled Utf8mb4 text
-has_utf8 form = true
-
--- The texts of the script in a tree are UTF-8, as those of a script are.
-unfoldable pub is_of_script : Expr → Bool
-is_of_script expr = fold-Expr Bool Bool (λ form. has_utf8 form && list_all (λ b. b) (parts form))
-    (λ e. e.form) expr

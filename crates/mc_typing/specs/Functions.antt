@@ -1,7 +1,7 @@
 -- The functions by their names, how many arguments each takes, and where these may be texts: MySQL
 -- 8.0 manual, 12.8, 12.6.2, 12.15 and 12.19.1.
-use Rattle.std.specs.Prelude.{ℕ, Bool, true, false, not, ◌&&◌, ◌||◌, List, [], ◌∷◌, Option, Some, codes}
-use Rattle.std.specs.Prelude.{nat_eq, nat_le, nat_lt, option_map}
+use Rattle.std.specs.Prelude.{ℕ, Bool, true, false, not, ◌&&◌, List, [], ◌∷◌, Option, Some, codes}
+use Rattle.std.specs.Prelude.{nat_eq, nat_le, option_map}
 use Rattle.std.specs.List.{find}
 use Rattle.std.specs.Option.{option_or}
 use Rattle.std.specs.Str.{bytes_eq}

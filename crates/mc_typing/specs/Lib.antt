@@ -9,4 +9,12 @@ pub mod Columns
 pub mod Operators
 pub mod Calls
 pub mod Exprs
+pub mod Walk
+pub mod FirstRefused
 pub mod Statements
+pub mod Gathered
+pub mod Whole
+pub mod OfType
+pub mod Parts
+pub mod Sound
+pub mod SoundStatements

@@ -14,7 +14,6 @@ use Rattle.mc_values.specs.declared.value.Value.{Value}
 use Rattle.mc_values.specs.declared.value.Value.TheVariants as value
 use Rattle.mc_typing.specs.declared.scope.Scope.{Scope}
 use Rattle.mc_typing.specs.declared.typed.Node.TheVariants.{Const}
-use Rattle.mc_typing.specs.declared.typed.Ty.{Ty}
 use Rattle.mc_typing.specs.declared.typed.Ty.TheVariants.{Null, Int, Str}
 use Rattle.mc_typing.specs.declared.typed.TypedExpr.{TypedExpr}
 use Rattle.mc_typing.specs.Messages.{bad_string, no_set}

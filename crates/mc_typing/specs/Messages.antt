@@ -1,8 +1,7 @@
 -- The refusals of typing, each a number and a text: MySQL 8.0 error reference. The numbers from 9000
 -- on, and the texts of 1054, 1055, 1146, 1300 and 1305, are this engine's own.
-use Rattle.std.specs.Prelude.{ℕ, List, [], ◌∷◌, ◌++◌, Option, codes, map, option_map, slice_get}
+use Rattle.std.specs.Prelude.{ℕ, List, [], ◌∷◌, ◌++◌, codes, option_map, slice_get}
 use Rattle.std.specs.Prelude.{unwrap_or}
-use Rattle.std.specs.List.{filter}
 use Prim.Native.String.{String}
 use Rattle.mc_base.specs.declared.refusal.Refusal.{Refusal}
 use Rattle.mc_charset.specs.declared.charset.Charset.{Charset}

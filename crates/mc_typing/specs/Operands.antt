@@ -1,5 +1,5 @@
 -- Expressions as operands of an operation on texts: MySQL 8.0 manual, 10.8.4 and 10.2.1.
-use Rattle.std.specs.Prelude.{◌≡◌, ℕ, ◌<◌, Bool, true, false, not, ◌&&◌, ◌||◌, List, [], ◌∷◌}
+use Rattle.std.specs.Prelude.{◌≡◌, ℕ, ◌<◌, Bool, true, false, List, [], ◌∷◌}
 use Rattle.std.specs.Prelude.{Option, Some, None, length, map, nat_lt, nat_le, unwrap_or}
 use Rattle.std.specs.Prelude.{if◌then◌else◌, All}
 use Rattle.std.specs.List.{find, list_all}
@@ -11,12 +11,11 @@ use Rattle.mc_charset.specs.declared.charset.Charset.TheVariants.{Binary}
 use Rattle.mc_charset.specs.declared.charset.Charset.TheVariants.{Latin1 as SetLatin1}
 use Rattle.mc_charset.specs.declared.collation_id.CollId.{CollId}
 use Rattle.mc_convert.specs.Classes.{rank}
-use Rattle.mc_convert.specs.Conversion.{is_binary}
 use Rattle.mc_convert.specs.declared.repertoire.Repertoire.{Repertoire}
 use Rattle.mc_convert.specs.declared.repertoire.Repertoire.TheVariants.{Ascii, Latin1, Bmp}
 use Rattle.mc_convert.specs.declared.repertoire.Repertoire.TheVariants.{Unicode, Bytes}
 use Rattle.mc_coerce.specs.Aggregate.{of_bin}
-use Rattle.mc_coerce.specs.Levels.{explicit, implicit, coercible, numeric, ignorable}
+use Rattle.mc_coerce.specs.Levels.{numeric, ignorable}
 use Rattle.mc_coerce.specs.Operand.{IsOperand, built_in_count}
 use Rattle.mc_coerce.specs.declared.operand.Operand.{Operand}
 use Rattle.mc_catalog.specs.LookUp.{collation_set, number_of, set_at, usual_name}

@@ -1,5 +1,5 @@
 -- Operators over typed operands: MySQL 8.0 manual, 12.4, 12.6.1, 12.8.1 and 10.8.1.
-use Rattle.std.specs.Prelude.{ℕ, Bool, true, false, not, ◌&&◌, ◌||◌, List, [], ◌∷◌, Option, Some}
+use Rattle.std.specs.Prelude.{ℕ, Bool, ◌||◌, List, [], ◌∷◌, Option, Some}
 use Rattle.std.specs.Prelude.{None, Result, Ok, Err, codes, if◌then◌else◌}
 use Rattle.std.specs.List.{list_any}
 use Rattle.std.specs.Option.{option_map_or}
@@ -8,7 +8,7 @@ use Rattle.mc_base.specs.declared.refusal.Refusal.{Refusal}
 use Rattle.mc_charset.specs.Chars.{chars}
 use Rattle.mc_charset.specs.Names.{same_set, set_named}
 use Rattle.mc_charset.specs.declared.charset.Charset.{Charset}
-use Rattle.mc_charset.specs.declared.charset.Charset.TheVariants.{Utf8mb4, Binary as SetBinary}
+use Rattle.mc_charset.specs.declared.charset.Charset.TheVariants.{Utf8mb4}
 use Rattle.mc_charset.specs.declared.collation_id.CollId.{CollId}
 use Rattle.mc_convert.specs.Classes.{cap_of}
 use Rattle.mc_convert.specs.Conversion.{is_binary}
@@ -26,7 +26,6 @@ use Rattle.mc_catalog.specs.declared.catalog.Catalog.{Catalog}
 use Rattle.mc_typing.specs.declared.scope.Scope.{Scope}
 use Rattle.mc_typing.specs.declared.typed.Node.{Node}
 use Rattle.mc_typing.specs.declared.typed.Node.TheVariants.{NumberText, Convert, Collate, Like}
-use Rattle.mc_typing.specs.declared.typed.Ty.{Ty}
 use Rattle.mc_typing.specs.declared.typed.Ty.TheVariants.{Int, Str}
 use Rattle.mc_typing.specs.declared.typed.TypedExpr.{TypedExpr}
 use Rattle.mc_typing.specs.Messages.{mix, no_collation, no_set, other_set, wrong_argument}

@@ -1,5 +1,5 @@
 -- What an expression is typed in: the columns of its statement's table, and the connection.
-use Rattle.std.specs.Prelude.{◌≡◌, ℕ, ◌<◌, List, [], Option, IfSome, length, slice_get}
+use Rattle.std.specs.Prelude.{◌<◌, List, [], Option, IfSome, length, slice_get}
 use Rattle.std.specs.Prelude.{option_map, unwrap_or}
 use Rattle.std.specs.Option.{option_and_then}
 use Rattle.mc_charset.specs.declared.charset.Charset.{Charset}

@@ -4,7 +4,7 @@ use Rattle.std.specs.Prelude.{◌≡◌, ℕ, ◌+◌, ◌-◌, Bool, true, fals
 use Rattle.std.specs.Prelude.{Result, Ok, Err, codes, drop, map, option_map, position, take, unwrap_or}
 use Rattle.std.specs.Prelude.{if◌then◌else◌}
 use Rattle.std.specs.List.{find, flat_map, list_any}
-use Rattle.std.specs.Option.{option_and_then, option_map_or, option_or}
+use Rattle.std.specs.Option.{option_and_then, option_map_or}
 use Rattle.std.specs.Str.{bytes_eq}
 use Rattle.mc_base.specs.Results.{result_and_then}
 use Rattle.mc_base.specs.declared.refusal.Refusal.{Refusal}
@@ -23,7 +23,7 @@ use Rattle.mc_typing.specs.declared.scope.Scope.{Scope}
 use Rattle.mc_typing.specs.declared.session.Session.{Session}
 use Rattle.mc_typing.specs.declared.typed.Node.{Node, Node-F}
 use Rattle.mc_typing.specs.declared.typed.Typed.{Typed}
-use Rattle.mc_typing.specs.declared.typed.TypedExpr.{TypedExpr, TypedExpr-F, para-TypedExpr}
+use Rattle.mc_typing.specs.declared.typed.TypedExpr.{TypedExpr, para-TypedExpr}
 use Rattle.mc_typing.specs.declared.typed.TypedOrder.{TypedOrder}
 use Rattle.mc_typing.specs.Columns.{column_at}
 use Rattle.mc_typing.specs.Exprs.{Typing, operands, parts, plain, typing}

@@ -1,5 +1,5 @@
 -- What a call gives, beside what the definitions say.
-use Rattle.std.specs.Prelude.{◌≡◌, Result, Ok, Err}
+use Rattle.std.specs.Prelude.{◌≡◌, Bool, Result, Ok, Err}
 use Rattle.mc_base.specs.declared.no_memory.NoMemory.{NoMemory as Lack}
 use Rattle.mc_base.specs.declared.refusal.Refusal.{Refusal}
 use Rattle.mc_typing.specs.declared.fault.TypeFault.{TypeFault}
@@ -15,3 +15,16 @@ IsWanted (Err NoMemory) wanted = Unit {0}
 abbrev pub fault_of : Result Refusal Lack → TypeFault
 fault_of (Ok refusal) = Refused refusal
 fault_of (Err lack) = NoMemory
+
+-- What is left in a place is the value that is wanted, or the refusal is.
+abbrev pub IsLeft : {T : Type 0} → Result Unit TypeFault → T → Result T Refusal → Type 0
+IsLeft (Ok done) left wanted = wanted ≡ Ok left
+IsLeft (Err (Refused refusal)) left wanted = wanted ≡ Err refusal
+IsLeft (Err NoMemory) left wanted = Unit {0}
+
+-- The same where the call also says whether something is so.
+abbrev pub IsGathered : {T : Type 0} → Result Bool TypeFault → T → Result (T × Bool) Refusal
+    → Type 0
+IsGathered (Ok is) left wanted = wanted ≡ Ok (left, is)
+IsGathered (Err (Refused refusal)) left wanted = wanted ≡ Err refusal
+IsGathered (Err NoMemory) left wanted = Unit {0}

@@ -30,6 +30,9 @@ pub(crate) enum Callee {
     Aggregate,
 }
 
+/// What takes texts at each place.
+pub(crate) const TEXTS: Option<Callee> = Some(Callee::Of(Func::Concat));
+
 /// The function of this name, which is in lower case.
 #[tactic(auto, unfolding(crate::specs::Functions::callee_of))]
 pub(crate) fn callee_of(name: &[u8]) -> Option<Callee>

@@ -17,13 +17,14 @@ ghost use Rattle.mc_typing.specs.Calls.{
   text_call,
   weights,
 };
+ghost use Rattle.mc_typing.specs.Functions.{callee_of, trim_of};
 ghost use Rattle.mc_typing.specs.Operands.{AreTyped};
 ghost use Rattle.mc_typing.specs.Operators.{some_text};
 ghost use Rattle.mc_typing.specs.Scope.{IsScope};
 ghost use Rattle.mc_typing.specs.Wanted.{IsWanted};
-ghost use Rattle.std.specs.Prelude.{◌≡◌, IfOk, drop, take};
+ghost use Rattle.std.specs.Prelude.{◌≡◌, IfOk, codes, drop, take};
 
-use crate::callee::{Callee, takes};
+use crate::callee::{Callee, callee_of, takes, trim_of};
 use crate::fault::{TypeFault, refused};
 use crate::literals::int_const;
 use crate::messages::{collation_name, no_function, wrong_argument, wrong_count};
@@ -33,7 +34,7 @@ use crate::operands::{
 use crate::operators::{number_expr, some_text, together};
 use crate::scope::Scope;
 use crate::typed::{Func, Node, Ty, TypedExpr};
-use mc_ast::Cut;
+use mc_ast::{Cut, TrimSide};
 use mc_base::{Boxed, List, NoMemory, Text};
 use mc_catalog::Catalog;
 use mc_charset::{Charset, charset_name};
@@ -287,7 +288,7 @@ fn called(
 }
 
 /// A call of what a name stands for.
-pub(crate) fn call(
+fn call(
     alloc: Global,
     c: &Catalog,
     s: Scope,
@@ -307,6 +308,37 @@ pub(crate) fn call(
     } else {
         Err(refused(wrong_count(alloc, name)))
     }
+}
+
+/// A call of a name.
+pub(crate) fn call_named(
+    alloc: Global,
+    c: &Catalog,
+    s: Scope,
+    name: &Text,
+    xs: List<TypedExpr>,
+) -> Result<TypedExpr, TypeFault>
+    requires scope { IsScope c.now s }
+    requires typed { AreTyped c.now xs }
+    ensures { IsWanted result (call c.now s name.now (callee_of name.now) xs) }
+{
+    let name = name.as_slice();
+    call(alloc, c, s, name, callee_of(name), xs)
+}
+
+/// TRIM from a side.
+pub(crate) fn trim(
+    alloc: Global,
+    c: &Catalog,
+    s: Scope,
+    side: TrimSide,
+    xs: List<TypedExpr>,
+) -> Result<TypedExpr, TypeFault>
+    requires scope { IsScope c.now s }
+    requires typed { AreTyped c.now xs }
+    ensures { IsWanted result (function_call c.now s (trim_of side) (codes "trim") xs) }
+{
+    function_call(alloc, c, s, trim_of(side), b"trim", xs)
 }
 
 fn is_length(length: i64) -> bool

@@ -10,19 +10,22 @@ ghost use Rattle.mc_typing.specs.Operators.{
   converted,
   converted_by_name,
 };
-ghost use Rattle.mc_typing.specs.Exprs.{usual_id};
-ghost use Rattle.mc_typing.specs.Scope.{IsScope};
+ghost use Rattle.mc_charset.specs.declared.charset.Charset.TheVariants.{Binary as SetBinary};
+ghost use Rattle.mc_typing.specs.Exprs.{turned, usual_id};
+ghost use Rattle.mc_typing.specs.Walk.{cast_char};
+ghost use Rattle.mc_typing.specs.Scope.{IsScope, connection_set};
 ghost use Rattle.mc_typing.specs.Wanted.{IsWanted};
-ghost use Rattle.std.specs.Prelude.{◌≡◌, ◌<◌, IfOk, IfSome, length, option_map};
+ghost use Rattle.std.specs.Prelude.{◌≡◌, ◌<◌, IfOk, IfSome, Ok, length, option_map};
 
 use crate::fault::{TypeFault, refused};
 use crate::messages::{no_collation, no_set, other_set};
 use crate::operands::{
-    connection_set, is_null, is_number, lesser, of_collation, of_number, text_operand, usual,
+    BINARY, connection_set, is_null, is_number, lesser, of_collation, of_number, text_operand,
+    usual,
 };
 use crate::scope::Scope;
 use crate::typed::{Node, Ty, TypedExpr};
-use mc_base::{Boxed, NoMemory};
+use mc_base::{Boxed, NoMemory, Text};
 use mc_catalog::{Catalog, collation_set, find_collation};
 use mc_charset::{Charset, CollId, charset_by_name, same_set};
 use mc_coerce::{EXPLICIT, IMPLICIT, Operand};
@@ -48,6 +51,24 @@ pub(crate) fn as_text(
         expr: Boxed::new(alloc, x)?,
     };
     Ok(TypedExpr { node, ty })
+}
+
+/// An operand that is taken for a text, if it is one of those.
+pub(crate) fn turned(
+    alloc: Global,
+    c: &Catalog,
+    s: Scope,
+    to_text: bool,
+    x: TypedExpr,
+) -> Result<TypedExpr, NoMemory>
+    requires { IsScope c.now s }
+    ensures { IfOk result (λ y. y ≡ turned c.now s to_text x) }
+{
+    if to_text {
+        as_text(alloc, c, s, x)
+    } else {
+        Ok(x)
+    }
 }
 
 /// The repertoire of a text that was converted to the set.
@@ -172,5 +193,83 @@ pub(crate) fn collated(
     match found_collation(c, name) {
         Some(id) => collated_by(alloc, c, name, id, x),
         None => Err(refused(no_collation(alloc, name))),
+    }
+}
+
+/// COLLATE of an operand.
+pub(crate) fn collate(
+    alloc: Global,
+    c: &Catalog,
+    s: Scope,
+    name: &Text,
+    x: TypedExpr,
+) -> Result<TypedExpr, TypeFault>
+    requires { IsScope c.now s }
+    ensures { IsWanted result (collated c.now name.now (as_text c.now s x)) }
+{
+    let x = as_text(alloc, c, s, x)?;
+    collated(alloc, c, name.as_slice(), x)
+}
+
+/// CONVERT of an operand to the set of a name.
+pub(crate) fn convert(
+    alloc: Global,
+    c: &Catalog,
+    s: Scope,
+    name: &[u8],
+    x: TypedExpr,
+) -> Result<TypedExpr, TypeFault>
+    requires { IsScope c.now s }
+    ensures { IsWanted result
+        (converted_by_name c.now (usual_id c.now) name.now (as_text c.now s x)) }
+{
+    let x = as_text(alloc, c, s, x)?;
+    converted_by_name(alloc, c, name, x)
+}
+
+/// CAST of an operand to the connection's set.
+fn cast_to_connection(
+    alloc: Global,
+    c: &Catalog,
+    s: Scope,
+    x: TypedExpr,
+) -> Result<TypedExpr, TypeFault>
+    requires { IsScope c.now s }
+    ensures { IsWanted result
+        (Ok (converted (connection_set c.now s) s.connection (as_text c.now s x))) }
+{
+    let x = as_text(alloc, c, s, x)?;
+    Ok(converted(alloc, connection_set(c, s), s.connection, x)?)
+}
+
+/// CAST of an operand to bytes.
+pub(crate) fn cast_to_bytes(
+    alloc: Global,
+    c: &Catalog,
+    s: Scope,
+    x: TypedExpr,
+) -> Result<TypedExpr, TypeFault>
+    requires { IsScope c.now s }
+    ensures { IsWanted result
+        (Ok (converted SetBinary (record { 0 = 0 }) (as_text c.now s x))) }
+{
+    let x = as_text(alloc, c, s, x)?;
+    Ok(converted(alloc, Charset::Binary, BINARY, x)?)
+}
+
+/// CAST of an operand to characters, of the connection's set where none is named.
+pub(crate) fn cast_char(
+    alloc: Global,
+    c: &Catalog,
+    s: Scope,
+    set: &Option<Text>,
+    x: TypedExpr,
+) -> Result<TypedExpr, TypeFault>
+    requires { IsScope c.now s }
+    ensures { IsWanted result (cast_char c.now s set.now (as_text c.now s x)) }
+{
+    match set {
+        Some(name) => convert(alloc, c, s, name.as_slice(), x),
+        None => cast_to_connection(alloc, c, s, x),
     }
 }

@@ -2,30 +2,48 @@
 //! the refusal of the first operation that its operands don't suit (MySQL 8.0 manual, 10.8.4; the
 //! order of refusals is this engine's own).
 //!
+//! [`type_statement`] types a statement's tree over a catalog and a [`Session`]. `specs/Statements`
+//! says what comes of a whole statement: its table first, then its items, WHERE and ORDER BY.
 //! `specs/Exprs` types a tree by cases: operands before their operation, the first that is refused
 //! deciding. `Literals`, `Columns`, `Operators` and `Calls` have the cases, `Functions` the table
-//! of functions, `Messages` the texts of refusals, and `Statements` a whole statement.
+//! of functions, `Messages` the texts of refusals.
 //!
 //! Read `typed` (what is made), `session` and `scope`; `operands`, then `literals`, `columns`,
 //! `operators`, `conversions`, `nodes` and `calls` over `callee`; `names`, `messages` and `fault`
-//! for refusals.
+//! for refusals; `shape`, `leaves`, `made` and `walk`, which types a tree; `items`, `conjuncts`,
+//! `orders`, `headers` and `statement`; and `laws` and `order_law`, which other crates prove with.
 #![tactic(auto)]
 
 mod callee;
 mod calls;
 mod columns;
+mod conjuncts;
 mod conversions;
 mod fault;
+mod headers;
+mod items;
+mod laws;
+mod leaves;
 mod literals;
+mod made;
 mod messages;
 mod names;
 mod nodes;
 mod operands;
 mod operators;
+mod order_law;
+mod orders;
 mod scope;
 mod session;
+mod shape;
+mod statement;
+mod strings;
 mod typed;
+mod walk;
 
 pub use fault::TypeFault;
+pub use laws::{constant_law, sound_law, typing_law};
+pub use order_law::order_of_refusals;
 pub use session::Session;
+pub use statement::type_statement;
 pub use typed::{AggName, Func, Node, Ty, Typed, TypedExpr, TypedOrder};

@@ -1,4 +1,4 @@
-ghost use Rattle.mc_charset.specs.Chars.{IsWellFormed, is_spelled};
+ghost use Rattle.mc_charset.specs.Chars.{IsWellFormed};
 ghost use Rattle.mc_charset.specs.declared.charset.Charset.TheVariants.{Binary, Utf8mb4};
 ghost use Rattle.mc_convert.specs.Conversion.{converted_text};
 ghost use Rattle.mc_catalog.specs.Lawful.{IsLawful};
@@ -17,7 +17,8 @@ ghost use Rattle.mc_typing.specs.Literals.{
 ghost use Rattle.mc_typing.specs.Messages.{bad_string};
 ghost use Rattle.mc_typing.specs.Scope.{IsScope};
 ghost use Rattle.mc_typing.specs.Wanted.{IsWanted};
-ghost use Rattle.std.specs.Prelude.{◌≡◌, Err, IfOk, true};
+ghost use Rattle.std.specs.Prelude.{◌≡◌, Err, IfOk, Ok};
+ghost use Rattle.std.specs.Str.{IsUtf8};
 
 use crate::fault::{TypeFault, refused};
 use crate::messages::{bad_string, no_set};
@@ -26,7 +27,7 @@ use crate::scope::Scope;
 use crate::typed::{Node, Ty, TypedExpr};
 use mc_base::{NoMemory, Text};
 use mc_catalog::Catalog;
-use mc_charset::{Charset, CollId, bytes_law, chars_law, charset_by_name};
+use mc_charset::{Charset, CollId, bytes_law, charset_by_name, utf8_law};
 use mc_coerce::COERCIBLE;
 use mc_convert::{convert, reinterpret};
 use mc_values::{Value, within_limit};
@@ -76,11 +77,11 @@ fn string_of(set: Charset, id: CollId, text: Text) -> TypedExpr
 
 /// The script's characters as a text of the set.
 fn script_text(alloc: Global, set: Charset, text: &[u8]) -> Result<Text, NoMemory>
-    requires { is_spelled Utf8mb4 text.now ≡ true }
+    requires { IsUtf8 text.now }
     ensures is { IfOk result (λ found. found ≡ converted_text Utf8mb4 set text.now) }
     ensures well_formed { IfOk result (λ found. IsWellFormed set found) }
 {
-    chars_law();
+    utf8_law();
     convert(alloc, Charset::Utf8mb4, set, text)
 }
 
@@ -90,10 +91,10 @@ pub(crate) fn plain_string(
     c: &Catalog,
     s: Scope,
     text: &[u8],
-) -> Result<TypedExpr, NoMemory>
+) -> Result<TypedExpr, TypeFault>
     requires scope { IsScope c.now s }
-    requires script { is_spelled Utf8mb4 text.now ≡ true }
-    ensures { IfOk result (λ x. x ≡ plain_string c.now s text.now) }
+    requires script { IsUtf8 text.now }
+    ensures { IsWanted result (Ok (plain_string c.now s text.now)) }
 {
     let set = connection_set(c, s);
     Ok(string_of(set, s.connection, script_text(alloc, set, text)?))
@@ -104,18 +105,18 @@ pub(crate) fn national_string(
     alloc: Global,
     c: &Catalog,
     text: &[u8],
-) -> Result<TypedExpr, NoMemory>
+) -> Result<TypedExpr, TypeFault>
     requires lawful { IsLawful c.now }
-    requires script { is_spelled Utf8mb4 text.now ≡ true }
-    ensures { IfOk result (λ x. x ≡ national_string c.now text.now) }
+    requires script { IsUtf8 text.now }
+    ensures { IsWanted result (Ok (national_string c.now text.now)) }
 {
     let set = Charset::Utf8mb3;
     Ok(string_of(set, usual(c, set), script_text(alloc, set, text)?))
 }
 
 /// A hexadecimal literal.
-pub(crate) fn hex_string(alloc: Global, bytes: &[u8]) -> Result<TypedExpr, NoMemory>
-    ensures { IfOk result (λ x. x ≡ hex_string bytes.now) }
+pub(crate) fn hex_string(alloc: Global, bytes: &[u8]) -> Result<TypedExpr, TypeFault>
+    ensures { IsWanted result (Ok (hex_string bytes.now)) }
 {
     bytes_law(bytes);
     Ok(string_of(Charset::Binary, BINARY, Text::from_slice(alloc, bytes)?))

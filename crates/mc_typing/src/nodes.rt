@@ -14,7 +14,7 @@ ghost use Rattle.mc_typing.specs.Operators.{
 };
 ghost use Rattle.mc_typing.specs.Wanted.{IsWanted};
 ghost use Rattle.mc_typing.specs.declared.typed.Node.TheVariants as node;
-ghost use Rattle.std.specs.Prelude.{◌≡◌, IfOk, codes};
+ghost use Rattle.std.specs.Prelude.{◌≡◌, Ok, codes};
 
 use crate::fault::{TypeFault, refused};
 use crate::messages::wrong_argument;
@@ -22,7 +22,7 @@ use crate::names::{arith_name, cmp_name};
 use crate::operators::{compared_by, comparison, need_number, need_numbers, number_expr};
 use crate::typed::{Node, TypedExpr};
 use mc_ast::{ArithOp, CmpOp};
-use mc_base::{Boxed, List, NoMemory, Text};
+use mc_base::{Boxed, List, Text};
 use mc_catalog::Catalog;
 use mc_charset::{CharAt, Charset, next_char};
 use std::alloc::Global;
@@ -72,8 +72,8 @@ pub(crate) fn arith(alloc: Global, op: ArithOp, xs: List<TypedExpr>) -> Result<T
     Ok(number_expr(Node::Arith { op, args: xs }))
 }
 
-pub(crate) fn is_null(alloc: Global, negated: bool, x: TypedExpr) -> Result<TypedExpr, NoMemory>
-    ensures { IfOk result (λ y. y ≡ number_expr (node.IsNull x negated)) }
+pub(crate) fn is_null(alloc: Global, negated: bool, x: TypedExpr) -> Result<TypedExpr, TypeFault>
+    ensures { IsWanted result (Ok (number_expr (node.IsNull x negated))) }
 {
     Ok(number_expr(Node::IsNull {
         expr: Boxed::new(alloc, x)?,

@@ -1,4 +1,4 @@
-use Rattle.std.proofs.Common.{◌≡◌, ℕ, sym, ◌∙◌}
+use Rattle.std.proofs.Common.{◌≡◌, sym, ◌∙◌}
 use Rattle.mc_coerce.specs.Operand.{AreOperands}
 use Rattle.mc_coerce.specs.Aggregate.{aggregate}
 use Rattle.mc_coerce.specs.declared.operand.Agg.TheVariants.{Uses}

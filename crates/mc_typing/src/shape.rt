@@ -1,0 +1,53 @@
+ghost use Rattle.mc_ast.specs.declared.expr.Form.TheViews.{out-Form};
+ghost use Rattle.mc_typing.specs.Walk.{shape_of};
+ghost use Rattle.std.specs.Prelude.{◌≡◌};
+
+use mc_ast::Form;
+
+/// How many operands a form has.
+#[derive(Clone, Copy)]
+pub(crate) enum Shape {
+    Leaf,
+    Single,
+    Several,
+}
+
+/// How many operands the form has.
+pub(crate) fn shape_of(form: &Form) -> Shape
+    ensures { result ≡ shape_of (out-Form form.now) }
+{
+    match form {
+        Form::Or(_)
+        | Form::And(_)
+        | Form::Xor(..)
+        | Form::Compare { .. }
+        | Form::Like { .. }
+        | Form::In { .. }
+        | Form::Between { .. }
+        | Form::Arith { .. }
+        | Form::Trim { .. }
+        | Form::SubstringFrom { .. }
+        | Form::Call { .. } => Shape::Several,
+        Form::Not(_)
+        | Form::IsNull { .. }
+        | Form::Neg(_)
+        | Form::Collate { .. }
+        | Form::Convert { .. }
+        | Form::CastChar { .. }
+        | Form::CastBinary(_)
+        | Form::CountDistinct(_)
+        | Form::WeightString { .. } => Shape::Single,
+        Form::Int(_)
+        | Form::True
+        | Form::False
+        | Form::Null
+        | Form::Str(_)
+        | Form::National(_)
+        | Form::Hex(_)
+        | Form::IntroStr { .. }
+        | Form::IntroHex { .. }
+        | Form::Name(_)
+        | Form::Qualified { .. }
+        | Form::CountAll => Shape::Leaf,
+    }
+}
