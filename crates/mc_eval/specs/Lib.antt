@@ -1,0 +1,16 @@
+pub mod Outcomes
+pub mod Held
+pub mod Truths
+pub mod Arithmetic
+pub mod SetTexts
+pub mod Texts
+pub mod Comparisons
+pub mod TextFunctions
+pub mod Functions
+pub mod Weights
+pub mod Layers
+pub mod Matches
+pub mod Node
+pub mod Value
+pub mod Fit
+pub mod Acceptance

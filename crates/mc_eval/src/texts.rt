@@ -1,0 +1,75 @@
+ghost use Rattle.mc_charset.specs.Chars.{IsWellFormed};
+ghost use Rattle.mc_convert.specs.Conversion.{converted_text};
+ghost use Rattle.mc_eval.specs.SetTexts.{set_text};
+ghost use Rattle.std.specs.Prelude.{◌≡◌, ◌<◌, ◌^◌, IfOk, length};
+
+use mc_base::{NoMemory, Text};
+use mc_charset::{Charset, same_set};
+use mc_convert::convert;
+use std::alloc::Global;
+
+/// How many bytes no text of an operand has: 4 GiB.
+const TOO_LONG: usize = 0x1_0000_0000;
+
+/// The text of an operand in the set of its operation: lent where it is in it, else converted.
+#[derive(Drop)]
+pub(crate) enum SetText<'a> {
+    Lent(&'a Text),
+    Made(Text),
+}
+
+impl<'a> SetText<'a> {
+    /// The text.
+    pub(crate) fn get(&self) -> &Text
+        ensures { result.now ≡ set_text self.now }
+    {
+        match self {
+            SetText::Lent(text) => text,
+            SetText::Made(text) => text,
+        }
+    }
+
+    /// The text, copied where it is lent.
+    pub(crate) fn into_text(self, alloc: Global) -> Result<Text, NoMemory>
+        ensures { IfOk result (λ text. text ≡ set_text self.entry) }
+    {
+        match self {
+            SetText::Lent(text) => Text::from_slice(alloc, text.as_slice()),
+            SetText::Made(text) => Ok(text),
+        }
+    }
+}
+
+/// A text in another set, of which memory has no 4 GiB.
+fn converted(alloc: Global, from: Charset, to: Charset, text: &Text) -> Result<Text, NoMemory>
+    requires { IsWellFormed from text.now }
+    ensures is { IfOk result (λ made. made ≡ converted_text from to text.now) }
+    ensures well_formed { IfOk result (λ made. IsWellFormed to made) }
+    ensures below_4_gib { IfOk result (λ made. length made < 2 ^ 32) }
+{
+    let made = convert(alloc, from, to, text.as_slice())?;
+    if made.len() < TOO_LONG {
+        Ok(made)
+    } else {
+        Err(NoMemory)
+    }
+}
+
+/// The text of an operand in the set of its operation.
+#[tactic(auto, using(crate::proofs::OwnText::in_own_set))]
+pub(crate) fn in_set<'a>(
+    alloc: Global,
+    to: Charset,
+    from: Charset,
+    text: &'a Text,
+) -> Result<SetText<'a>, NoMemory>
+    requires { IsWellFormed from text.now }
+    ensures is { IfOk result (λ it. set_text it ≡ converted_text from to text.now) }
+    ensures well_formed { IfOk result (λ it. IsWellFormed to (set_text it)) }
+    ensures below_4_gib { IfOk result (λ it. length (set_text it) < 2 ^ 32) }
+{
+    if same_set(from, to) && text.len() < TOO_LONG {
+        return Ok(SetText::Lent(text));
+    }
+    Ok(SetText::Made(converted(alloc, from, to, text)?))
+}
