@@ -27,7 +27,7 @@ use Rattle.mc_catalog.specs.declared.entry.Entry.{Entry}
 use Rattle.mc_catalog.specs.declared.entry.Entry.TheVariants.{Collation, Connection, Table, Column, Index}
 use Rattle.mc_catalog.specs.declared.fault.CatalogFaultKind.{CatalogFaultKind}
 use Rattle.mc_catalog.specs.BuiltIn.{built_in_collations}
-use Rattle.mc_catalog.specs.Lawful.{IsLawfulSoFar, IsLawfulTable, IsLawfulType, IsLawfulCollation, IsLawfulIndex, AreApart, suits, width_of}
+use Rattle.mc_catalog.specs.Lawful.{IsLawfulSoFar, IsLawfulTable, IsLawfulType, IsLawfulCollation, IsLawfulIndex, IsLawfulName, AreApart, suits, width_of}
 use Rattle.mc_catalog.specs.LookUp.{number_of}
 use Rattle.mc_catalog.specs.Formed.{IsFormed, IsFormedColumn}
 use Rattle.mc_catalog.specs.Progress.{Progress, tables_of, declared_of, id_of, type_of, with_column, column_named, width_at, indexed_column, with_index, with_entry, catalog_of}
@@ -84,8 +84,8 @@ nine collations e =
     let taken : length (take 9 collations) ≡ 9 = ap length e in
     omega (arith, length-take 9 collations)
 
-collation_kept : (so_far : Progress) (declared : CollDecl) → IsLawfulSoFar (catalog_of so_far) → IsLawfulCollation declared → list_any (λ other. bytes_eq other.name declared.name) so_far.collations ≡ false → length so_far.collations < 73 → IsLawfulSoFar (catalog_of (record so_far { collations = so_far.collations ++ declared ∷ [] }))
-collation_kept so_far declared h own fresh few =
+collation_kept : (so_far : Progress) (declared : CollDecl) → IsLawfulSoFar (catalog_of so_far) → IsLawfulCollation declared → IsLawfulName declared.name → list_any (λ other. bytes_eq other.name declared.name) so_far.collations ≡ false → length so_far.collations < 73 → IsLawfulSoFar (catalog_of (record so_far { collations = so_far.collations ++ declared ∷ [] }))
+collation_kept so_far declared h own name fresh few =
     let collations = so_far.collations in
     let some = nine collations h.built_in in
     let more : length collations ≤ length (collations ++ declared ∷ []) = omega (arith, length-append collations (declared ∷ [])) in
@@ -94,6 +94,7 @@ collation_kept so_far declared h own fresh few =
       few_collations = omega (arith, length-append collations (declared ∷ []));
       declared = rw (drop-append-le 9 collations (declared ∷ []) some) (All-push IsLawfulCollation (drop 9 collations) declared h.declared own);
       collation_names = apart_more (λ other. other.name) collations declared h.collation_names fresh;
+      lawful_names = All-push (λ (other : CollDecl). IsLawfulName other.name) collations declared h.lawful_names name;
       few_tables = h.few_tables;
       tables = All-weaker (IsLawfulTable (length collations)) (IsLawfulTable (length (collations ++ declared ∷ [])))
           (λ table. table_kept (length collations) (length (collations ++ declared ∷ [])) table more) (tables_of so_far) h.tables;
@@ -102,13 +103,13 @@ collation_kept so_far declared h own fresh few =
     }
 
 -- an entry that declares a collation
-collation_step : (so_far : Progress) (name : List ℕ) (set : Option Charset) (kind : Option Kind) (file : List ℕ) (rules : Option (List ℕ)) → IsLawfulSoFar (catalog_of so_far) → IfSome rules (λ _. IsTrue (may_have_rules kind)) → first_of (collation_tests so_far.collations name set kind) ≡ None → IsLawfulSoFar (catalog_of (record so_far { collations = so_far.collations ++ option_to_list (declared_of name set kind file rules) }))
+collation_step : (so_far : Progress) (name : List ℕ) (set : Option Charset) (kind : Option Kind) (file : List ℕ) (rules : Option (List ℕ)) → IsLawfulSoFar (catalog_of so_far) → IsLawfulName name × IfSome rules (λ _. IsTrue (may_have_rules kind)) → first_of (collation_tests so_far.collations name set kind) ≡ None → IsLawfulSoFar (catalog_of (record so_far { collations = so_far.collations ++ option_to_list (declared_of name set kind file rules) }))
 unfolding declared_of
 collation_step so_far name None kind file rules h formed e = absurd (cc)
 collation_step so_far name (Some set) None file rules h formed e = absurd (cc)
 collation_step so_far name (Some set) (Some kind) file rules h formed e =
     let clear = three_clear WrongCharset Repeated TooMany (not (suits kind set)) (list_any (λ other. bytes_eq other.name name) so_far.collations) (nat_le 73 (length so_far.collations)) e in
-    collation_kept so_far (record { name = name; charset = set; kind = kind; file = file; rules = rules }) h (not_false (suits kind set) clear.0, formed) clear.1 (below 73 (length so_far.collations) clear.2)
+    collation_kept so_far (record { name = name; charset = set; kind = kind; file = file; rules = rules }) h (not_false (suits kind set) clear.0, formed.1) formed.0 clear.1 (below 73 (length so_far.collations) clear.2)
 
 -- the number of a collation is that of one
 id_within : (collations : List CollDecl) (name : List ℕ) (id : CollId) → id_of collations name ≡ Some id → id.0 < length collations
@@ -128,6 +129,7 @@ connection_kept so_far name h = record {
   few_collations = h.few_collations;
   declared = h.declared;
   collation_names = h.collation_names;
+  lawful_names = h.lawful_names;
   few_tables = h.few_tables;
   tables = h.tables;
   table_names = h.table_names;
@@ -162,6 +164,7 @@ table_step so_far number name file h e =
       few_collations = h.few_collations;
       declared = h.declared;
       collation_names = h.collation_names;
+      lawful_names = h.lawful_names;
       few_tables = omega (arith, few, length-append tables (table ∷ []));
       tables = All-push (IsLawfulTable (length so_far.collations)) tables table h.tables (new_table_lawful (length so_far.collations) name file);
       table_names = apart_more (λ table. table.name) tables table h.table_names clear.0;
@@ -182,6 +185,7 @@ last_kept so_far old new e h own same =
       few_collations = h.few_collations;
       declared = h.declared;
       collation_names = h.collation_names;
+      lawful_names = h.lawful_names;
       few_tables = omega (arith, long, h.few_tables);
       tables = All-push P earlier new (All-pop P (tables_of so_far) earlier so_far.last refl h.tables).0 own;
       table_names = subst AreApart names h.table_names;

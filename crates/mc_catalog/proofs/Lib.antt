@@ -1,4 +1,5 @@
 pub mod PlainLawful
+pub mod LawfulNames
 pub mod Lists
 pub mod LawfulSteps
 pub mod LinesRead

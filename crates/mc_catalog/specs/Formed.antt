@@ -1,7 +1,9 @@
--- What the form of a line alone makes sure of: lengths within the limits, rules where they may be.
+-- What the form of a line alone makes sure of: lengths within the limits, names in ASCII, rules
+-- where they may be.
 use Rattle.std.specs.Prelude.{◌≤◌, ⊤, IsTrue, IfSome}
 use Rattle.mc_catalog.specs.Limits.{longest_char, longest_varchar}
 use Rattle.mc_catalog.specs.Entries.{may_have_rules}
+use Rattle.mc_catalog.specs.Lawful.{IsLawfulName}
 use Rattle.mc_catalog.specs.declared.catalog.ColumnType.{ColumnType}
 use Rattle.mc_catalog.specs.declared.catalog.ColumnType.TheVariants.{BigInt, Binary, VarBinary}
 use Rattle.mc_catalog.specs.declared.catalog.ColumnType.TheVariants.{Char as TypeChar}
@@ -25,8 +27,10 @@ IsFormedColumn (Plain type) = IsFormedType type
 IsFormedColumn (Char n collation) = (1 ≤ n) × (n ≤ longest_char)
 IsFormedColumn (VarChar n collation) = (1 ≤ n) × (n ≤ longest_varchar)
 
--- An entry has a length within its limit, and rules only where its kind takes them.
+-- An entry has a length within its limit, a collation's name, and rules only where its kind takes
+-- them.
 abbrev pub IsFormed : Entry → Type 0
-IsFormed (Collation name set kind file rules) = IfSome rules (λ _. IsTrue (may_have_rules kind))
+IsFormed (Collation name set kind file rules) =
+    IsLawfulName name × IfSome rules (λ _. IsTrue (may_have_rules kind))
 IsFormed (Column name form) = IsFormedColumn form
 IsFormed _ = ⊤

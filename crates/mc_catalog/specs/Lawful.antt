@@ -2,6 +2,8 @@
 use Rattle.std.specs.Prelude.{◌≡◌, ◌≢◌, ◌<◌, ◌≤◌, ⊤, ℕ, Bool, true, false, IsTrue, List, length}
 use Rattle.std.specs.Prelude.{take, drop, Option, None, Some, All, AllPairs, IfSome, IsSomeAnd, map}
 use Rattle.std.specs.Prelude.{slice_get}
+use Rattle.std.specs.Char.{is_ascii}
+use Rattle.std.specs.List.{list_all}
 use Rattle.mc_charset.specs.Names.{is_unicode_set}
 use Rattle.mc_charset.specs.declared.charset.Charset.{Charset}
 use Rattle.mc_charset.specs.declared.charset.Charset.TheVariants.{Latin1, Ascii, Utf8mb4}
@@ -17,7 +19,7 @@ use Rattle.mc_catalog.specs.declared.catalog.IndexDecl.{IndexDecl}
 use Rattle.mc_catalog.specs.declared.catalog.TableDecl.{TableDecl}
 use Rattle.mc_catalog.specs.declared.catalog.Catalog.{Catalog}
 use Rattle.mc_catalog.specs.Limits.{built_in_count, longest_char, longest_varchar, most_collations}
-use Rattle.mc_catalog.specs.Limits.{most_columns, most_indexes, most_tables}
+use Rattle.mc_catalog.specs.Limits.{longest_name, most_columns, most_indexes, most_tables}
 use Rattle.mc_catalog.specs.BuiltIn.{built_in_collations}
 
 -- Whether a set has one byte for each character of a text: latin1 and ascii.
@@ -48,6 +50,10 @@ takes_rules Bin = false
 takes_rules Table8 = false
 takes_rules General = false
 takes_rules _ = true
+
+-- A name is a word of ASCII, of at most 64 bytes.
+abbrev pub IsLawfulName : List ℕ → Type 0
+IsLawfulName name = (length name ≤ longest_name) × IsTrue (list_all is_ascii name)
 
 -- A declared collation has a kind that suits its set, and rules only where the kind takes them.
 abbrev pub IsLawfulCollation : CollDecl → Type 0
@@ -97,6 +103,7 @@ pub record IsLawfulSoFar (catalog : Catalog) : Type 0 where
   pub few_collations : length catalog.collations ≤ most_collations
   pub declared : All IsLawfulCollation (drop built_in_count catalog.collations)
   pub collation_names : AreApart (map (λ declared. declared.name) catalog.collations)
+  pub lawful_names : All (λ declared. IsLawfulName declared.name) catalog.collations
   pub few_tables : length catalog.tables ≤ most_tables
   pub tables : All (IsLawfulTable (length catalog.collations)) catalog.tables
   pub table_names : AreApart (map (λ table. table.name) catalog.tables)

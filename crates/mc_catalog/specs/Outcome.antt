@@ -1,5 +1,5 @@
 -- What the text of a catalog gives: the catalog, or its first fault.
-use Rattle.std.specs.Prelude.{◌≡◌, ℕ, List, Option, Some, None, Result, Ok, Err, option_map}
+use Rattle.std.specs.Prelude.{ℕ, List, Option, Some, None, Result, Ok, Err, option_map}
 use Rattle.std.specs.Prelude.{option_and_then, slice_get}
 use Rattle.std.specs.Option.{option_or}
 use Rattle.mc_base.specs.FirstFault.{first_fault}

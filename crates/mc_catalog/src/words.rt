@@ -1,6 +1,7 @@
 ghost use Rattle.std.specs.Prelude.{◌≡◌, ◌≤◌, IfSome, IfOk, map, min, true};
 ghost use Rattle.std.specs.Char.{is_ascii_digit, to_ascii_lowercase};
 ghost use Rattle.std.specs.List.{list_all};
+ghost use Rattle.mc_catalog.specs.Lawful.{IsLawfulName};
 ghost use Rattle.mc_catalog.specs.Words.{
   is_name_byte,
   is_name,
@@ -20,9 +21,10 @@ use std::alloc::Global;
 const GREATEST: u32 = 65_535;
 
 /// The name that a field is, in lower case; None where it is none.
-#[tactic(auto, unfolding(crate::specs::Words::field_name))]
+#[tactic(auto, unfolding(crate::specs::Words::field_name), using(crate::proofs::LawfulNames::lower_lawful))]
 pub(crate) fn read_name(alloc: Global, field: &[u8]) -> Result<Option<Text>, NoMemory>
-    ensures { IfOk result (λ name. name ≡ field_name field.now) }
+    ensures value { IfOk result (λ name. name ≡ field_name field.now) }
+    ensures lawful { IfOk result (λ name. IfSome name IsLawfulName) }
 {
     if !is_name(field) {
         return Ok(None);
