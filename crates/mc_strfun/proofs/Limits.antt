@@ -1,13 +1,13 @@
 -- Where a text is within the greatest length, and how long copies, digits and joined texts are.
 use Rattle.std.proofs.Common.{◌≡◌, Bool, IsTrue, false, ℕ, zero, suc, ◌+◌, ◌*◌, ◌/◌, ◌<◌, ◌≤◌, List, [], ◌∷◌, ◌++◌, Some, None, length, append_assoc, append-nil, refl, sym, ap, ◌∙◌, arith, length-append}
-use Rattle.std.specs.List.{flat_map, repeat, sum_by}
+use Rattle.std.specs.List.{flat_map, join_by, repeat, sum_by}
 use Rattle.std.proofs.lemmas.Bool.{false≢true}
 use Rattle.std.proofs.lemmas.Bool.Decides.{nat_tests}
 use Rattle.std.proofs.lemmas.List.Sums.{sum_by-cons}
 use Rattle.std.proofs.Math.Nat.{suc-mul, div-lt_iff_lt-mul, le-div_iff_mul-le}
 use Rattle.mc_values.specs.Hexadecimal.{hex_digits, hex_pair}
 use Rattle.mc_values.specs.Values.{greatest_string, within_limit}
-use Rattle.mc_strfun.specs.Joins.{joined_with, allowed_length}
+use Rattle.mc_strfun.specs.Joins.{allowed_length}
 
 pub within_limit-fits : (text : List ℕ) → length text ≤ greatest_string → within_limit text ≡ Some text
 within_limit-fits text h = grind (arith, nat_tests)
@@ -63,20 +63,20 @@ unfolding hex_digits
 length-digits [] = refl
 length-digits (byte ∷ bytes) = let e : length (flat_map hex_pair bytes) ≡ 2 * length bytes = length-digits bytes in omega (arith, e)
 
-others_length : (separator : List ℕ) (others : List (List ℕ))
-    → length (flat_map (λ part. separator ++ part) others) ≡ sum_by (λ part. length separator + length part) others
-others_length separator [] = refl
-others_length separator (part ∷ others) =
-    let one = length-append (separator ++ part) (flat_map (λ p. separator ++ p) others) in
-    let two = length-append separator part in
-    let later = others_length separator others in
-    let sum = sum_by-cons (λ (p : List ℕ). length separator + length p) part others in
+others_length : {A : Type 0} → (f : A → List ℕ) (separator : List ℕ) (others : List A)
+    → length (flat_map (λ part. separator ++ f part) others) ≡ sum_by (λ part. length separator + length (f part)) others
+others_length f separator [] = refl
+others_length f separator (part ∷ others) =
+    let one = length-append (separator ++ f part) (flat_map (λ p. separator ++ f p) others) in
+    let two = length-append separator (f part) in
+    let later = others_length f separator others in
+    let sum = sum_by-cons (λ p. length separator + length (f p)) part others in
     omega (arith, one, two, later, sum)
 
-pub length-joined : (separator first : List ℕ) (others : List (List ℕ))
-    → length (joined_with separator (first ∷ others)) ≡ length first + sum_by (λ part. length separator + length part) others
-length-joined separator first others =
-    length-append first (flat_map (λ part. separator ++ part) others) ∙ ap (λ k. length first + k) (others_length separator others)
+pub length-joined : {A : Type 0} → (f : A → List ℕ) (separator : List ℕ) (first : A) (others : List A)
+    → length (join_by f separator (first ∷ others)) ≡ length (f first) + sum_by (λ part. length separator + length (f part)) others
+length-joined f separator first others =
+    length-append (f first) (flat_map (λ part. separator ++ f part) others) ∙ ap (λ k. length (f first) + k) (others_length f separator others)
 
 none_long : (len : ℕ) → allowed_length len ≡ None → greatest_string < len
 none_long len h = grind (arith, nat_tests)
@@ -84,16 +84,16 @@ none_long len h = grind (arith, nat_tests)
 some_short : (len n : ℕ) → allowed_length len ≡ Some n → len ≤ greatest_string
 some_short len n h = grind (arith, nat_tests)
 
-pub joined_long : (separator first : List ℕ) (others parts : List (List ℕ)) (n : ℕ) → parts ≡ first ∷ others → n ≡ length first
-    → allowed_length (n + sum_by (λ part. length separator + length part) others) ≡ None → None ≡ within_limit (joined_with separator parts)
-joined_long separator first others parts n e k h =
-    sym (ap (λ ps. within_limit (joined_with separator ps)) e
-    ∙ within_limit-long _ (omega (arith, none_long _ h, k, length-joined separator first others)))
+pub joined_long : {A : Type 0} → (f : A → List ℕ) (separator : List ℕ) (first : A) (others parts : List A) (n : ℕ) → parts ≡ first ∷ others → n ≡ length (f first)
+    → allowed_length (n + sum_by (λ part. length separator + length (f part)) others) ≡ None → None ≡ within_limit (join_by f separator parts)
+joined_long f separator first others parts n e k h =
+    sym (ap (λ ps. within_limit (join_by f separator ps)) e
+    ∙ within_limit-long _ (omega (arith, none_long _ h, k, length-joined f separator first others)))
 
-pub joined_short : (separator first : List ℕ) (others parts : List (List ℕ)) (n len : ℕ) (front out : List ℕ) → parts ≡ first ∷ others → n ≡ length first
-    → allowed_length (n + sum_by (λ part. length separator + length part) others) ≡ Some len
-    → front ≡ first → out ≡ front ++ flat_map (λ part. separator ++ part) others → Some out ≡ within_limit (joined_with separator parts)
-joined_short separator first others parts n len front out e k h f o =
-    ap (λ t. Some t) (o ∙ ap (λ t. t ++ flat_map (λ part. separator ++ part) others) f)
-    ∙ sym (ap (λ ps. within_limit (joined_with separator ps)) e
-    ∙ within_limit-fits _ (omega (arith, some_short _ len h, k, length-joined separator first others)))
+pub joined_short : {A : Type 0} → (f : A → List ℕ) (separator : List ℕ) (first : A) (others parts : List A) (n len : ℕ) (front out : List ℕ) → parts ≡ first ∷ others → n ≡ length (f first)
+    → allowed_length (n + sum_by (λ part. length separator + length (f part)) others) ≡ Some len
+    → front ≡ f first → out ≡ front ++ flat_map (λ part. separator ++ f part) others → Some out ≡ within_limit (join_by f separator parts)
+joined_short f separator first others parts n len front out e k h g o =
+    ap (λ t. Some t) (o ∙ ap (λ t. t ++ flat_map (λ part. separator ++ f part) others) g)
+    ∙ sym (ap (λ ps. within_limit (join_by f separator ps)) e
+    ∙ within_limit-fits _ (omega (arith, some_short _ len h, k, length-joined f separator first others)))

@@ -95,7 +95,7 @@ two_each : trimmed Both (codes "ab") (codes "abababcbabab") ≡ codes "cb"
 unfolding behind_copies without_trailing
 two_each = refl
 
-leading_first : trimmed Both (codes "aa") (codes "aaa") ≡ codes "a"
+leading_first : trimmed Both (codes "aba") (codes "ababa") ≡ codes "ba"
 unfolding behind_copies without_trailing
 leading_first = refl
 

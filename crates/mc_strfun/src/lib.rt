@@ -6,9 +6,10 @@
 //! answer is None, which is NULL, and no such text is built.
 //!
 //! Read the modules in this order: `number` (numbers of characters), `part` (the slice that some
-//! characters of a text spell), `slices` (LEFT, RIGHT, SUBSTRING), `copies` (REPEAT), `joins`
-//! (CONCAT, CONCAT_WS), `pads` (LPAD, RPAD), `reversal` (REVERSE), `replacement` (REPLACE),
-//! `trimming` (TRIM), `digits` (HEX), and `laws`, which other crates prove with.
+//! characters of a text spell), `slices` (LEFT, RIGHT, SUBSTRING), `copies` (REPEAT), `text_like`
+//! (texts that are owned or lent), `joins` (CONCAT, CONCAT_WS), `pads` (LPAD, RPAD), `reversal`
+//! (REVERSE), `replacement` (REPLACE), `trimming` (TRIM), `digits` (HEX), and `laws`, which other
+//! crates prove with.
 #![tactic(auto)]
 
 mod copies;
@@ -21,14 +22,16 @@ mod part;
 mod replacement;
 mod reversal;
 mod slices;
+mod text_like;
 mod trimming;
 
 pub use copies::repeat;
 pub use digits::hex;
-pub use joins::{concat, concat_ws};
+pub use joins::{concat, concat_texts, concat_texts_ws, concat_ws};
 pub use laws::{repeat_law, trim_law};
 pub use pads::{lpad, rpad};
 pub use replacement::replace;
 pub use reversal::reverse;
 pub use slices::{left, right, substring};
+pub use text_like::TextLike;
 pub use trimming::{Side, trim};
