@@ -26,6 +26,7 @@ pub(crate) fn ends_like<C: Collation, E: Encoding, W>(
     ensures exact { IsTrue result ↔
         Like (C.meaning collation.now) (PatternItem.Any ∷ items.now) (chars E.set text.now) }
     ensures at_most { work.new ≤ work.old + length items.now }
+    ensures later { min work.old last_count ≤ work.new }
     ensures each_literal { IsTrue result →
         min (work.old + literal_count items.now) last_count ≤ work.new }
 {

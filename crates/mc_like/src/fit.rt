@@ -39,6 +39,7 @@ pub(crate) fn fit_front<'a, C: Collation, E: Encoding, W>(
     requires of_set { AreOfSet E.set items.now }
     ensures fit { IsFit (C.meaning collation.now) E.set items.now (chars E.set text.now) result }
     ensures ticks { Ticks items.now work.old work.new result }
+    ensures later { min work.old last_count ≤ work.new }
     ensures left_of_set { LeavesOfSet E.set result }
 {
     let mut left = items;

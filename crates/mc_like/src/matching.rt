@@ -28,6 +28,7 @@ pub(crate) fn is_match_in<C: Collation, W>(
         IsTrue result ↔ Like (C.meaning collation.now) items.now codes }
     ensures at_most { let n = length (chars set text.now) in let m = length items.now in
         work.new ≤ work.old + (n + 1) * (m + 1) }
+    ensures later { min work.old last_count ≤ work.new }
     ensures each_literal { IsTrue result →
         min (work.old + literal_count items.now) last_count ≤ work.new }
 {
@@ -56,6 +57,7 @@ fn is_match<C: Collation, E: Encoding, W>(
         IsTrue result ↔ Like (C.meaning collation.now) items.now codes }
     ensures at_most { let n = length (chars E.set text.now) in let m = length items.now in
         work.new ≤ work.old + (n + 1) * (m + 1) }
+    ensures later { min work.old last_count ≤ work.new }
     ensures each_literal { IsTrue result →
         min (work.old + literal_count items.now) last_count ≤ work.new }
 {
@@ -82,6 +84,7 @@ fn is_match_behind<C: Collation, E: Encoding, W>(
         Like (C.meaning collation.now) (PatternItem.Any ∷ items.now) (chars E.set text.now) }
     ensures at_most { let n = length (chars E.set text.now) in let m = length items.now in
         work.new ≤ work.old + n * (m + 1) + m }
+    ensures later { min work.old last_count ≤ work.new }
     ensures each_literal { IsTrue result →
         min (work.old + literal_count items.now) last_count ≤ work.new }
 {

@@ -95,9 +95,11 @@ impl Pattern {
         ensures at_most { let n = length (chars self.now.charset text.now) in
             let m = length self.now.items in
             work.new ≤ work.old + (n + 1) * (m + 1) }
+        ensures later { work.old ≤ work.new }
         ensures each_literal { IsTrue result →
             min (work.old + literal_count self.now.items) (2 ^ 64 - 1) ≤ work.new }
     {
+        let _so_far = work.count();
         is_match_in(self.charset, collation, self.items.as_slice(), text, work)
     }
 }

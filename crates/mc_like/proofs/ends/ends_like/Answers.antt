@@ -61,5 +61,6 @@ returns-in_default g c =
             (is_some (length items) c.if-is_empty.ensures) h).1)),
       );
       at_most = ticks_most items _ _ c.fit_front.result c.fit_front.ensures.ticks;
+      later = c.fit_front.ensures.later;
       each_literal = λ h. let never : ⊥ = cc in absurd never;
     }

@@ -43,6 +43,7 @@ returns-in_default-first_in g c = record {
       c.in-Some.ensures.cases.0 c.in_default-first_in.ensures
       (record { other = c.in_default-item.not-Any });
   ticks = omega (arith, c.loop-item.invariant.2);
+  later = c.loop-item.invariant.4;
   left_of_set = tt;
 }
 
@@ -73,6 +74,7 @@ returns-then-not-is_taken g c = record {
     omega (arith, c.loop-item.invariant.2, c.in-Some.ensures.cases.1, c.is_taken.ensures.at_most),
     omega (arith, c.loop-item.invariant.4, c.is_taken.ensures.at_least),
   );
+  later = omega (arith, c.loop-item.invariant.4, c.is_taken.ensures.at_least);
   left_of_set = tt;
 }
 
@@ -116,5 +118,6 @@ returns-in-None g c =
         omega (arith, c.loop-item.invariant.2),
         omega (arith, c.loop-item.invariant.3, count),
       );
+      later = c.loop-item.invariant.4;
       left_of_set = tt;
     }

@@ -37,4 +37,5 @@ loop-gaps-preserved g c =
           longer ticks.0 c.loop-gaps.invariant.2 c.loop-gaps.invariant.3,
       omega (arith, c.loop-gaps.invariant.4, ticks.1),
       c.loop-gaps.invariant.5,
+      omega (arith, c.loop-gaps.invariant.6, c.in-Misfit.ensures.later),
     )

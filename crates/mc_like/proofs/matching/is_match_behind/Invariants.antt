@@ -20,6 +20,7 @@ invariant-loop-gaps g l =
     × (min (l.fn.work + literal_count l.fn.items) last_count
     ≤ min (l.work + literal_count l.items) last_count)
     × (l.gaps ≡ has_any l.items)
+    × (min l.fn.work last_count ≤ l.work)
 
 abbrev pub decreases-loop-gaps : goal.decreases-loop-gaps
 decreases-loop-gaps g l = length (chars g.E.Encoding.set l.rest) + length l.items
