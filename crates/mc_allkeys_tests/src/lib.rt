@@ -5,4 +5,6 @@
 #[cfg(test)]
 mod look_up_tests;
 #[cfg(test)]
+mod put_tests;
+#[cfg(test)]
 mod reader_tests;
