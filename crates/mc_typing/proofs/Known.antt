@@ -4,7 +4,6 @@ use Rattle.std.specs.Prelude.{All, IsTrue}
 use Rattle.std.specs.List.{Any}
 use Rattle.mc_charset.specs.Chars.{IsWellFormed, is_spelled}
 use Rattle.mc_charset.specs.declared.charset.Charset.{Charset}
-use Rattle.mc_convert.specs.Conversion.{IsConverted, converted_text}
 use Rattle.mc_coerce.specs.Aggregate.{aggregate, counted}
 use Rattle.mc_coerce.specs.Operand.{AreOperands, IsOperand}
 use Rattle.mc_coerce.specs.Sets.{bin_collation_of}
@@ -16,8 +15,6 @@ use Rattle.mc_typing.proofs.Usual.{AreNamed}
 pub record Known : Type 0 where
   pub named : AreNamed
   pub tells : (set : Charset) (text : List ℕ) → IsTrue (is_spelled set text) ↔ IsWellFormed set text
-  pub converted : (from to : Charset) (text made : List ℕ)
-      → IsConverted from to text made ↔ (made ≡ converted_text from to text)
   pub by_sets : (list : List Operand) (set_of : ℕ → Charset) → All IsOperand list
       → All (λ a. a.charset ≡ set_of a.collation.0) list → AreOperands list
   pub operand : (list : List Operand) (purpose : Purpose) (together : Operand)

@@ -9,10 +9,13 @@ pub mod Walked
 pub mod FirstRefusals
 pub mod Alone
 pub mod Gatherings
+pub mod Grouped
 pub mod Wholes
 pub mod StandardFacts
 pub mod Known
 pub mod SoundTrees
+pub mod SoundInduction
+pub mod Ungrouped
 pub mod SoundTexts
 pub mod SoundOperands
 pub mod SoundOperators
@@ -21,5 +24,4 @@ pub mod SoundCalls
 pub mod SoundTyping
 pub mod SoundConjuncts
 pub mod SoundStatements
-pub mod Constants
 pub mod OperandTypes

@@ -27,7 +27,7 @@ use Rattle.mc_typing.specs.Messages.{no_table, wrong_argument}
 use Rattle.mc_typing.specs.OfType.{IsNumeric}
 use Rattle.mc_typing.specs.Operands.{is_text}
 use Rattle.mc_typing.specs.Scope.{IsScope, columns_of}
-use Rattle.mc_typing.specs.Sound.{HasTextNames, IsSound}
+use Rattle.mc_typing.specs.Sound.{IsSound}
 use Rattle.mc_typing.specs.SoundStatements.{IsSoundStatement, row_types, statement_aggregates}
 use Rattle.mc_typing.specs.Statements.{condition, conjuncts, header_of, is_int, item_expr}
 use Rattle.mc_typing.specs.Statements.{order_keys, order_typing, own_order, scope_in, star_columns}
@@ -40,6 +40,7 @@ use Rattle.mc_typing.proofs.SoundOperands.{Operands, each, either, numeric_ty, o
 use Rattle.mc_typing.proofs.SoundTexts.{chosen}
 use Rattle.mc_typing.proofs.SoundTrees.{IsFine}
 use Rattle.mc_typing.proofs.SoundTyping.{of_ok, typing_good}
+use Rattle.mc_typing.proofs.Ungrouped.{none_all, none_keys}
 
 -- The scope of a statement
 table_within : (tables : List TableDecl) (name : List ℕ) (place : ℕ)
@@ -93,8 +94,7 @@ for_all : {A E : Type 0} (P : List Ty → A → Type 0) (r : Result A E)
 for_all P (Ok a) h = h
 for_all P (Err e) h = tt
 
-module _ (known : Known) (c : Catalog) (s : Scope) (scope : IsScope c s)
-    (names : HasTextNames c) where
+module _ (known : Known) (c : Catalog) (s : Scope) (scope : IsScope c s) where
   abbrev Sound : List Ty → TypedExpr → Type 0
   Sound aggregates x = IsSound c (row_types c s.table) aggregates x
 
@@ -103,7 +103,7 @@ module _ (known : Known) (c : Catalog) (s : Scope) (scope : IsScope c s)
 
   sound_typing : (aggregates : List Ty) (e : Expr) → IfOk (typing c s e) (Sound aggregates)
   sound_typing aggregates e = weaken (Fine aggregates) (Sound aggregates) (typing c s e)
-      (λ x h. h.1 names) (typing_good known c s scope aggregates e)
+      (λ x h. h.1) (typing_good known c s scope aggregates e)
 
   -- Items
   exprs_good : (aggregates : List Ty) (es : List Expr)
@@ -131,7 +131,7 @@ module _ (known : Known) (c : Catalog) (s : Scope) (scope : IsScope c s)
   star_sound aggregates place (d ∷ columns) h =
       let same : place + 0 ≡ place = omega arith in (
         (column_at_sound c s scope aggregates place d
-            (subst (λ n. slice_get (columns_of c s) n ≡ Some d) same (h 0 d refl))).1 names,
+            (subst (λ n. slice_get (columns_of c s) n ≡ Some d) same (h 0 d refl))).1,
         star_sound aggregates (place + 1) columns (λ k e is.
             let next : place + suc k ≡ (place + 1) + k = omega arith in
             subst (λ n. slice_get (columns_of c s) n ≡ Some e) next (h (suc k) e is)),
@@ -180,6 +180,14 @@ module _ (known : Known) (c : Catalog) (s : Scope) (scope : IsScope c s)
       (keys_sound aggregates items os) (λ keys k. (h, k)))
 
   -- The whole
+  all_items : (aggregates : List Ty) (star : Bool) (es : List Expr) (xs : List TypedExpr)
+      → AreItems es xs
+      → AllByRecursion (Sound aggregates) (star_from c 0 (star_columns c s star) ++ xs)
+  all_items aggregates star es xs items =
+      all_append (Sound aggregates) (star_from c 0 (star_columns c s star)) xs
+      (star_all aggregates star)
+      (each (Fine aggregates) (Sound aggregates) (λ x h. h.1) xs (items aggregates).0)
+
   made_statement : (script : List ℕ) (statement : Statement) (xs : List TypedExpr)
       (conditions : List TypedExpr) (orders : List TypedOrder)
       → AreItems (map (λ item. item.expr) statement.items) xs → AreTruths conditions
@@ -196,8 +204,8 @@ module _ (known : Known) (c : Catalog) (s : Scope) (scope : IsScope c s)
             ((items []).2 ∙ length-map (map (λ item. item.expr) statement.items) (typing c s)
             ∙ length-map statement.items (λ item. item.expr));
         items = All-from_recursion (Sound aggregates) (star ++ xs)
-            (all_append (Sound aggregates) star xs (star_all aggregates statement.star)
-            (each (Fine aggregates) (Sound aggregates) (λ x h. h.1 names) xs (items aggregates).0));
+            (all_items aggregates statement.star (map (λ item. item.expr) statement.items)
+            xs items);
         conjuncts = All-from_recursion (Sound []) conditions
             (each (IsTruth c (row_types c s.table) []) (Sound []) (λ x h. h.0) conditions truths);
         truths = All-from_recursion (λ x. IsNumeric x.ty) conditions
@@ -205,6 +213,15 @@ module _ (known : Known) (c : Catalog) (s : Scope) (scope : IsScope c s)
             truths);
         groups = λ k d lt. absurd (omega (arith, lt));
         orders = All-from_recursion (λ o. Sound aggregates o.expr) orders (keys aggregates);
+        plain = record {
+          ungrouped = refl;
+          groups = refl;
+          aggregates = rw (
+            none_all c (row_types c s.table) (star ++ xs)
+                (all_items [] statement.star (map (λ item. item.expr) statement.items) xs items),
+            none_keys c (row_types c s.table) orders (keys []),
+          ) refl;
+        };
       }
 
   pub statement_in : (script : List ℕ) (statement : Statement)
@@ -230,19 +247,19 @@ module _ (known : Known) (c : Catalog) (s : Scope) (scope : IsScope c s)
       (λ orders keys. made_statement script statement xs conditions orders items truths keys)))
 
 pub statement_good : Known → (script : List ℕ) (statement : Statement) (c : Catalog)
-    (session : Session) → IsLawful c → HasTextNames c
+    (session : Session) → IsLawful c
     → session.connection.0 < length c.collations
     → IfOk (typed_statement script statement c session) (IsSoundStatement c)
 unfolding typed_statement
-statement_good known script statement c session lawful names within =
+statement_good known script statement c session lawful within =
     then (IsScope c) (IsSoundStatement c) (scope_in c session statement.table)
     (typed_in script statement c) (scope_lawful c session statement.table lawful within)
-    (λ s scope. statement_in known c s scope names script statement)
+    (λ s scope. statement_in known c s scope script statement)
 
 pub statement_sound : Known → (script : List ℕ) (statement : Statement) (c : Catalog)
-    (session : Session) (t : Typed) → IsLawful c → HasTextNames c
+    (session : Session) (t : Typed) → IsLawful c
     → session.connection.0 < length c.collations
     → typed_statement script statement c session ≡ Ok t → IsSoundStatement c t
-statement_sound known script statement c session t lawful names within e =
+statement_sound known script statement c session t lawful within e =
     of_ok (IsSoundStatement c) (typed_statement script statement c session) t
-    (statement_good known script statement c session lawful names within) e
+    (statement_good known script statement c session lawful within) e

@@ -14,7 +14,7 @@ use Rattle.mc_typing.specs.declared.typed.TypedExpr.{every_here-TypedExpr, every
 use Rattle.mc_typing.specs.declared.typed.TypedExpr.{every_made-TypedExpr}
 use Rattle.mc_typing.specs.Operands.{IsTyOf}
 use Rattle.mc_typing.specs.Parts.{node_parts}
-use Rattle.mc_typing.specs.Sound.{HasTextNames, IsSound, IsSoundNode}
+use Rattle.mc_typing.specs.Sound.{IsSound, IsSoundNode}
 
 -- Values with facts about them, and a list of both.
 pub paired : {X : Type 0} (P : X → Type 0) (xs : List X) → AllByRecursion P xs
@@ -182,22 +182,16 @@ module _ (c : Catalog) (columns aggregates : List Ty) where
       (sound_made (out-Node x.node) x.ty t h
       (recursion_from_All (IsSound c columns aggregates) (node_parts (out-Node x.node)) parts))
 
-  -- Its type has a collation of the catalog, and it is sound where names are texts.
+  -- Its type has a collation of the catalog, and it is sound.
   abbrev pub IsFine : TypedExpr → Type 0
-  IsFine x = IsTyOf c x.ty × (HasTextNames c → IsSound c columns aggregates x)
+  IsFine x = IsTyOf c x.ty × IsSound c columns aggregates x
 
-  all_named : HasTextNames c → (xs : List TypedExpr) → AllByRecursion IsFine xs
+  all_sound : (xs : List TypedExpr) → AllByRecursion IsFine xs
       → AllByRecursion (IsSound c columns aggregates) xs
-  all_named names [] h = tt
-  all_named names (x ∷ xs) h = (h.0.1 names, all_named names xs h.1)
-
-  pub named_made : (l : Node-F Node TypedExpr) (ty : Ty) → IsTyOf c ty
-      → (HasTextNames c → IsSoundNode c columns aggregates ty l)
-      → AllByRecursion IsFine (node_parts l) → IsFine (record { node = roll-Node l; ty = ty })
-  named_made l ty t h parts =
-      (t, λ names. sound_made l ty t (h names) (all_named names (node_parts l) parts))
+  all_sound [] h = tt
+  all_sound (x ∷ xs) h = (h.0.1, all_sound xs h.1)
 
   pub fine_made : (l : Node-F Node TypedExpr) (ty : Ty) → IsTyOf c ty
       → IsSoundNode c columns aggregates ty l
       → AllByRecursion IsFine (node_parts l) → IsFine (record { node = roll-Node l; ty = ty })
-  fine_made l ty t h parts = named_made l ty t (λ names. h) parts
+  fine_made l ty t h parts = (t, sound_made l ty t h (all_sound (node_parts l) parts))

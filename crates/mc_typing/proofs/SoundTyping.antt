@@ -29,7 +29,7 @@ use Rattle.mc_typing.specs.Operators.{as_text, collated, compared, converted, co
 use Rattle.mc_typing.specs.Operators.{like, number_expr, of_numbers, of_one_number}
 use Rattle.mc_typing.specs.Scope.{IsScope, connection_set}
 use Rattle.mc_typing.specs.Operands.{IsTyOf}
-use Rattle.mc_typing.specs.Sound.{AreTextual, HasTextNames, IsSound}
+use Rattle.mc_typing.specs.Sound.{AreTextual, IsSound}
 use Rattle.mc_typing.specs.SoundStatements.{row_types}
 use Rattle.mc_typing.proofs.Known.{Known}
 use Rattle.mc_typing.proofs.SoundCalls.{function_sound, named_sound, trim_sound}
@@ -307,8 +307,8 @@ typing_typed known c s expr x scope e =
     (typing_good known c s scope [] expr) e).0
 
 pub typing_sound : Known → (c : Catalog) (s : Scope) (expr : Expr) (x : TypedExpr)
-    (aggregates : List Ty) → IsScope c s → HasTextNames c → typing c s expr ≡ Ok x
+    (aggregates : List Ty) → IsScope c s → typing c s expr ≡ Ok x
     → IsSound c (row_types c s.table) aggregates x
-typing_sound known c s expr x aggregates scope names e =
+typing_sound known c s expr x aggregates scope e =
     (of_ok (IsFine c (row_types c s.table) aggregates) (typing c s expr) x
-    (typing_good known c s scope aggregates expr) e).1 names
+    (typing_good known c s scope aggregates expr) e).1

@@ -12,6 +12,7 @@ pub mod Exprs
 pub mod Walk
 pub mod FirstRefused
 pub mod Statements
+pub mod Grouping
 pub mod Gathered
 pub mod Whole
 pub mod OfType

@@ -1,7 +1,9 @@
 -- The values and types of literals: MySQL 8.0 manual, 9.1, 10.3.6 and 10.3.8.
 use Rattle.std.specs.Prelude.{ℕ, List, Option, Some, None, Result, Ok, Err, IsTrue}
+use Rattle.std.specs.Prelude.{if◌then◌else◌}
 use Rattle.std.specs.Option.{option_map_or}
 use Rattle.mc_base.specs.declared.refusal.Refusal.{Refusal}
+use Rattle.mc_charset.specs.Chars.{is_spelled}
 use Rattle.mc_charset.specs.Names.{set_named}
 use Rattle.mc_charset.specs.declared.charset.Charset.{Charset}
 use Rattle.mc_charset.specs.declared.charset.Charset.TheVariants.{Utf8mb3, Utf8mb4, Binary}
@@ -28,9 +30,13 @@ int_const number = record { node = Const (value.Int number); ty = Int }
 abbrev pub null_const : TypedExpr
 null_const = record { node = Const value.Null; ty = Null }
 
--- The value of a string: NULL where it would be too long.
+-- The text that a string has: none where it would be too long, or is no text of its set.
+abbrev pub kept_text : Charset → List ℕ → Option (List ℕ)
+kept_text set text = if is_spelled set text then within_limit text else None
+
+-- The value of a string: NULL where it has no text.
 abbrev pub text_value : Charset → List ℕ → Value
-text_value set text = option_map_or (λ kept. value.Str set kept) (within_limit text) value.Null
+text_value set text = option_map_or (λ kept. value.Str set kept) (kept_text set text) value.Null
 
 -- A string of a collation: its repertoire is that of its content.
 abbrev pub string_of : Charset → CollId → List ℕ → TypedExpr

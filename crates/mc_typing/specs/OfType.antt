@@ -1,9 +1,7 @@
 -- What a type says of a value, and what an operation asks of an operand's type.
-use Rattle.std.specs.Prelude.{◌≡◌, ℕ, ◌≤◌, List, IsSomeAnd, length, slice_get, Some}
+use Rattle.std.specs.Prelude.{◌≡◌, ℕ, List, IsSomeAnd, slice_get, Some}
 use Rattle.mc_charset.specs.Chars.{IsWellFormed}
 use Rattle.mc_charset.specs.declared.charset.Charset.{Charset}
-use Rattle.mc_charset.specs.declared.charset.Charset.TheVariants.{Binary}
-use Rattle.mc_values.specs.Values.{greatest_string}
 use Rattle.mc_values.specs.declared.value.Value.{Value}
 use Rattle.mc_values.specs.declared.value.Value.TheVariants as value
 use Rattle.mc_typing.specs.declared.typed.Ty.{Ty}
@@ -15,20 +13,6 @@ IsOfType ty value.Null = Unit {0}
 IsOfType Int (value.Int number) = Unit {0}
 IsOfType (Str a) (value.Str set text) = (set ≡ a.charset) × IsWellFormed set text
 IsOfType ty v = ⊥
-
--- The bytes are a text of the set. Of binary any bytes are one.
-abbrev pub IsConstantText : Charset → List ℕ → Type 0
-IsConstantText Binary text = Unit {0}
-IsConstantText set text = IsWellFormed set text
-
--- A constant of the type, or NULL: a number, or a text of the type's set that is no longer than a
--- string may be.
-abbrev pub IsConstantOf : Ty → Value → Type 0
-IsConstantOf ty value.Null = Unit {0}
-IsConstantOf Int (value.Int number) = Unit {0}
-IsConstantOf (Str a) (value.Str set text) =
-    (set ≡ a.charset) × IsConstantText set text × (length text ≤ greatest_string)
-IsConstantOf ty v = ⊥
 
 -- At the place of each of the types the row has a value of it.
 abbrev pub IsRowOf : List Ty → List Value → Type 0

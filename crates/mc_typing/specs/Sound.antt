@@ -3,12 +3,11 @@
 -- the operand, the target the set of the operation's collation, and each text can be converted.
 use Rattle.std.specs.Prelude.{◌≡◌, ℕ, ◌<◌, ◌≤◌, Bool, ◌&&◌, List, Option, Some, None, All}
 use Rattle.std.specs.Prelude.{IsTrue, MatchBool, get_or, length, nat_le, slice_get}
-use Rattle.mc_charset.specs.Chars.{IsWellFormed}
-use Rattle.mc_charset.specs.declared.charset.Charset.TheVariants.{Binary as SetBinary, Utf8mb3}
+use Rattle.mc_charset.specs.declared.charset.Charset.TheVariants.{Binary as SetBinary}
 use Rattle.mc_charset.specs.declared.collation_id.CollId.{CollId}
 use Rattle.mc_coerce.specs.declared.operand.Operand.{Operand}
 use Rattle.mc_catalog.specs.declared.catalog.Catalog.{Catalog}
-use Rattle.mc_values.specs.Values.{greatest_string}
+use Rattle.mc_values.specs.Values.{IsWithinLimit}
 use Rattle.mc_typing.specs.declared.callee.Callee.TheVariants.{Of}
 use Rattle.mc_typing.specs.declared.typed.AggName.{AggName}
 use Rattle.mc_typing.specs.declared.typed.AggName.TheVariants.{Count, Min, Max, Sum}
@@ -21,7 +20,7 @@ use Rattle.mc_typing.specs.declared.typed.Ty.TheVariants.{Int, Str}
 use Rattle.mc_typing.specs.declared.typed.TypedExpr.{TypedExpr, every-TypedExpr}
 use Rattle.mc_typing.specs.Calls.{is_cut}
 use Rattle.mc_typing.specs.Functions.{takes, takes_text}
-use Rattle.mc_typing.specs.OfType.{IsConstantOf, IsNumeric, IsTextIn, IsTextTy, IsTextual, KeepsSet}
+use Rattle.mc_typing.specs.OfType.{IsNumeric, IsOfType, IsTextIn, IsTextTy, IsTextual, KeepsSet}
 use Rattle.mc_typing.specs.Operands.{IsTextOf, IsTyOf}
 
 -- The operands are numbers, NULL among them.
@@ -99,7 +98,7 @@ IsSoundAggregate name None ty = ⊥
 -- types.
 abbrev pub IsSoundNode : {X : Type 0} → Catalog → List Ty → List Ty → Ty → Node-F X TypedExpr
     → Type 0
-IsSoundNode c columns aggregates ty (Node-F.Const v) = IsConstantOf ty v
+IsSoundNode c columns aggregates ty (Node-F.Const v) = IsOfType ty v × IsWithinLimit v
 IsSoundNode c columns aggregates ty (Node-F.Column place) = slice_get columns place ≡ Some ty
 IsSoundNode c columns aggregates ty (Node-F.Collate x) = KeepsSet x.ty ty
 IsSoundNode c columns aggregates ty (Node-F.Compare op coll xs) =
@@ -133,8 +132,3 @@ IsSoundNode c columns aggregates ty (Node-F.WeightString cut x) =
 unfoldable pub IsSound : Catalog → List Ty → List Ty → TypedExpr → Type 0
 IsSound c columns aggregates x = every-TypedExpr (λ node. Unit {0})
     (λ e. IsTyOf c e.ty × IsSoundNode c columns aggregates e.ty (out-Node e.node)) x
-
--- The names of the catalog's collations are texts, no longer than a string may be.
-abbrev pub HasTextNames : Catalog → Type 0
-HasTextNames c = All (λ collation. IsWellFormed Utf8mb3 collation.name
-    × (length collation.name ≤ greatest_string)) c.collations

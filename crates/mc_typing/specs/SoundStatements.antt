@@ -44,8 +44,14 @@ abbrev pub statement_aggregates : Typed → List Ty
 statement_aggregates t = flat_map aggregate_types t.items
     ++ flat_map (λ order. aggregate_types order.expr) t.orders
 
+-- The statement has no groups, and no aggregate stands in it.
+pub record HasNoGroups (t : Typed) : Type 0 where
+  pub ungrouped : t.grouped ≡ false
+  pub groups : t.groups ≡ []
+  pub aggregates : statement_aggregates t ≡ []
+
 -- The statement's expressions are sound over its table's columns; aggregates stand in items and
--- orders alone, and its conjuncts are truth values.
+-- orders alone, and its conjuncts are truth values. So far it has no groups.
 pub record IsSoundStatement (c : Catalog) (t : Typed) : Type 0 where
   pub table : IfSome t.table (λ place. place < length c.tables)
   pub header : length t.header ≡ length t.items
@@ -55,3 +61,4 @@ pub record IsSoundStatement (c : Catalog) (t : Typed) : Type 0 where
   pub groups : All (IsSound c (row_types c t.table) []) t.groups
   pub orders : All (λ order. IsSound c (row_types c t.table) (statement_aggregates t) order.expr)
       t.orders
+  pub plain : HasNoGroups t

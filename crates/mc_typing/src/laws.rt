@@ -3,11 +3,10 @@ ghost use Rattle.mc_ast.specs.declared.statement.Statement.{Statement};
 ghost use Rattle.mc_catalog.specs.Lawful.{IsLawful};
 ghost use Rattle.mc_catalog.specs.declared.catalog.Catalog.{Catalog};
 ghost use Rattle.mc_typing.specs.Exprs.{typing};
-ghost use Rattle.mc_typing.specs.OfType.{IsConstantOf, IsOfType};
 ghost use Rattle.mc_typing.specs.Operands.{IsTyOf};
 ghost use Rattle.mc_typing.specs.Parts.{node_parts};
 ghost use Rattle.mc_typing.specs.Scope.{IsScope};
-ghost use Rattle.mc_typing.specs.Sound.{HasTextNames, IsSound, IsSoundNode};
+ghost use Rattle.mc_typing.specs.Sound.{IsSound, IsSoundNode};
 ghost use Rattle.mc_typing.specs.SoundStatements.{IsSoundStatement, row_types};
 ghost use Rattle.mc_typing.specs.Statements.{typed_statement};
 ghost use Rattle.mc_typing.specs.declared.scope.Scope.{Scope};
@@ -16,13 +15,10 @@ ghost use Rattle.mc_typing.specs.declared.typed.Node.{Node, Node-F, out-Node, ro
 ghost use Rattle.mc_typing.specs.declared.typed.Ty.{Ty};
 ghost use Rattle.mc_typing.specs.declared.typed.Typed.{Typed};
 ghost use Rattle.mc_typing.specs.declared.typed.TypedExpr.{TypedExpr};
-ghost use Rattle.mc_values.specs.Values.{IsWithinLimit};
-ghost use Rattle.std.specs.Prelude.{◌≡◌, ◌<◌, ℕ, All, List, Ok, length};
+ghost use Rattle.std.specs.Prelude.{◌≡◌, ◌<◌, ℕ, All, Bool, List, Ok, length, true};
 
-use mc_charset::{bytes_law, chars_law, set_names_law};
+use mc_charset::{chars_law, set_names_law};
 use mc_coerce::{operands_law, result_law};
-use mc_convert::conversion_law;
-use mc_values::Value;
 
 /// What typing gives of an expression in its scope, whatever aggregates there are: its type has a
 /// collation of the catalog, and it is sound.
@@ -30,33 +26,32 @@ pub(crate) fn expression_law()
     ensures typed { (c : Catalog) (s : Scope) (expr : Expr) (x : TypedExpr) → IsScope c s
         → typing c s expr ≡ Ok x → IsTyOf c x.ty }
     ensures sound { (c : Catalog) (s : Scope) (expr : Expr) (x : TypedExpr) (aggregates : List Ty)
-        → IsScope c s → HasTextNames c → typing c s expr ≡ Ok x
+        → IsScope c s → typing c s expr ≡ Ok x
         → IsSound c (row_types c s.table) aggregates x }
 {
     set_names_law();
     chars_law();
-    conversion_law();
     operands_law();
     result_law();
 }
 
-/// What typing gives of a statement is sound: in a lawful catalog whose collations have texts for
-/// names, with one of its collations as the connection's.
+/// What typing gives of a statement is sound: in a lawful catalog, with one of its collations as
+/// the connection's.
 pub fn typing_law()
     ensures { (script : List ℕ) (statement : Statement) (c : Catalog) (session : Session)
-        (t : Typed) → IsLawful c → HasTextNames c
+        (t : Typed) → IsLawful c
         → session.connection.0 < length c.collations
         → typed_statement script statement c session ≡ Ok t → IsSoundStatement c t }
 {
     set_names_law();
     chars_law();
-    conversion_law();
     operands_law();
     result_law();
 }
 
 /// A typed expression is sound exactly where its type has a collation of the catalog, its node
-/// takes its operands, and each of these is sound.
+/// takes its operands, and each of these is sound. A test that a sound expression passes wherever
+/// its operands pass it is passed by each.
 pub fn sound_law()
     ensures typed { (c : Catalog) (columns aggregates : List Ty) (x : TypedExpr)
         → IsSound c columns aggregates x → IsTyOf c x.ty }
@@ -70,18 +65,8 @@ pub fn sound_law()
         → IsTyOf c x.ty → IsSoundNode c columns aggregates x.ty (out-Node x.node)
         → All (IsSound c columns aggregates) (node_parts (out-Node x.node))
         → IsSound c columns aggregates x }
+    ensures tests { (c : Catalog) (columns aggregates : List Ty) (p : TypedExpr → Bool)
+        → ((x : TypedExpr) → IsSound c columns aggregates x
+        → All (λ y. p y ≡ true) (node_parts (out-Node x.node)) → p x ≡ true)
+        → (x : TypedExpr) → IsSound c columns aggregates x → p x ≡ true }
 {}
-
-/// A constant of a type is a value of it, within the greatest length. Its bytes are bytes, which
-/// are a text of binary whatever they are.
-#[tactic(auto, using(crate::proofs::Constants::constant_kept))]
-pub fn constant_law(value: &Value)
-    ensures { (ty : Ty) → IsConstantOf ty value.now
-        → IsOfType ty value.now × IsWithinLimit value.now }
-{
-    match value {
-        Value::Null => {}
-        Value::Int(_) => {}
-        Value::Str { charset: _, text } => bytes_law(text.as_slice()),
-    }
-}

@@ -20,6 +20,7 @@ mod columns;
 mod conjuncts;
 mod conversions;
 mod fault;
+mod grouping;
 mod headers;
 mod items;
 mod laws;
@@ -42,7 +43,8 @@ mod typed;
 mod walk;
 
 pub use fault::TypeFault;
-pub use laws::{constant_law, sound_law, typing_law};
+pub use grouping::is_ungrouped;
+pub use laws::{sound_law, typing_law};
 pub use order_law::order_of_refusals;
 pub use session::Session;
 pub use statement::type_statement;

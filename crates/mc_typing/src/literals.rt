@@ -27,7 +27,7 @@ use crate::scope::Scope;
 use crate::typed::{Node, Ty, TypedExpr};
 use mc_base::{NoMemory, Text};
 use mc_catalog::Catalog;
-use mc_charset::{Charset, CollId, bytes_law, charset_by_name, utf8_law};
+use mc_charset::{Charset, CollId, bytes_law, chars_law, charset_by_name, utf8_law};
 use mc_coerce::COERCIBLE;
 use mc_convert::{convert, reinterpret};
 use mc_values::{Value, within_limit};
@@ -55,8 +55,10 @@ pub(crate) fn null_const() -> TypedExpr
 
 /// The value of a string: NULL where it would be too long.
 fn text_value(set: Charset, text: Text) -> Value
+    requires { IsWellFormed set text }
     ensures { result ≡ text_value set text }
 {
+    chars_law();
     match within_limit(text) {
         Some(text) => Value::Str { charset: set, text },
         None => Value::Null,

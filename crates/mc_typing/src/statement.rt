@@ -1,7 +1,6 @@
 ghost use Rattle.mc_ast.specs.Texts.{HasUtf8Strings};
 ghost use Rattle.mc_catalog.specs.Lawful.{IsLawful};
 ghost use Rattle.mc_typing.specs.Scope.{IsScope};
-ghost use Rattle.mc_typing.specs.Sound.{HasTextNames};
 ghost use Rattle.mc_typing.specs.SoundStatements.{IsSoundStatement};
 ghost use Rattle.mc_typing.specs.Statements.{
   IsUngrouped,
@@ -96,7 +95,8 @@ fn typed_in(
 ) -> Result<Typed, TypeFault>
     requires scope { IsScope c.now s }
     requires strings { HasUtf8Strings statement.now }
-    ensures { IsWanted result (typed_parts script.now statement.now c.now s) }
+    ensures is { IsWanted result (typed_parts script.now statement.now c.now s) }
+    ensures distinct { IfOk result (λ t. t.distinct ≡ statement.now.distinct) }
 {
     let own = statement.items.as_slice();
     let items = all_items(alloc, c, s, statement)?;
@@ -129,7 +129,8 @@ fn typed(
     requires lawful { IsLawful c.now }
     requires connection { session.now.connection.0 < length c.now.collations }
     requires strings { HasUtf8Strings statement.now }
-    ensures { IsWanted result (typed_statement script.now statement.now c.now session.now) }
+    ensures is { IsWanted result (typed_statement script.now statement.now c.now session.now) }
+    ensures distinct { IfOk result (λ t. t.distinct ≡ statement.now.distinct) }
 {
     let s = scope_in(alloc, c, session, &statement.table)?;
     typed_in(alloc, script, statement, c, s)
@@ -151,7 +152,8 @@ pub fn type_statement(
     requires strings { HasUtf8Strings statement.now }
     requires ungrouped { IsUngrouped statement.now }
     ensures is { IsWanted result (typed_statement script.now statement.now c.now session.now) }
-    ensures sound { HasTextNames c.now → IfOk result (IsSoundStatement c.now) }
+    ensures sound { IfOk result (IsSoundStatement c.now) }
+    ensures distinct { IfOk result (λ t. t.distinct ≡ statement.now.distinct) }
 {
     typing_law();
     typed(alloc, statement, script, c, session)

@@ -1,3 +1,6 @@
+use Rattle.std.proofs.Common.{◌≡◌, true}
+use Rattle.mc_typing.specs.declared.typed.TypedExpr.{TypedExpr}
+use Rattle.mc_typing.proofs.SoundInduction.{sound_induction}
 use Rattle.mc_typing.proofs.SoundTrees.{sound_all, sound_again, sound_here}
 use Rattle.mc_typing.proofs.laws.sound_law.Goals as goal
 
@@ -7,4 +10,6 @@ returns c = record {
   node = λ cat columns aggregates x h. (sound_here cat columns aggregates x h).1;
   parts = sound_all;
   made = sound_again;
+  tests = λ cat columns aggregates p step. sound_induction cat columns aggregates
+      (λ (x : TypedExpr). p x ≡ true) step;
 }

@@ -6,7 +6,6 @@ returns c =
     statement_sound (record {
       named = c.set_names_law.ensures;
       tells = c.chars_law.ensures.tells;
-      converted = c.conversion_law.ensures.is;
       by_sets = c.operands_law.ensures.by_sets;
       operand = c.result_law.ensures.operand;
       collation = c.result_law.ensures.collation;

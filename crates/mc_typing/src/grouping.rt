@@ -1,0 +1,178 @@
+ghost use Rattle.mc_ast.specs.declared.expr.Form.TheViews.{out-Form};
+ghost use Rattle.mc_typing.specs.Exprs.{parts};
+ghost use Rattle.mc_typing.specs.Grouping.{has_no_groups, is_ungrouped};
+ghost use Rattle.mc_typing.specs.Statements.{IsUngrouped, aggregates, has_aggregate};
+ghost use Rattle.std.specs.Bool.{OnTrue};
+ghost use Rattle.std.specs.List.{list_any};
+ghost use Rattle.std.specs.Option.{option_map_or};
+ghost use Rattle.std.specs.Prelude.{◌≡◌, [], ◌∷◌, false};
+
+use crate::callee::{Callee, callee_of};
+use mc_ast::{Expr, Form, Item, OrderItem, Statement};
+
+/// Whether the form itself is an aggregate.
+fn is_aggregate(form: &Form) -> bool
+    ensures { result ≡ aggregates (out-Form form.now) }
+{
+    match form {
+        Form::CountAll | Form::CountDistinct(_) => true,
+        Form::Call { name, .. } => { matches!(callee_of(name.as_slice()), Some(Callee::Aggregate)) }
+        _ => false,
+    }
+}
+
+/// Whether an aggregate stands in an expression.
+#[cycle(grouping)]
+pub(crate) fn has_aggregate(e: &Expr) -> bool
+    ensures { result ≡ has_aggregate e.now }
+{
+    is_aggregate(&e.form) || in_operands(&e.form)
+}
+
+/// Whether one of so many tests holds.
+fn any_one(test: bool) -> bool
+    ensures { result ≡ list_any (λ t. t) (test ∷ []) }
+{
+    test
+}
+
+fn any_two(one: bool, other: bool) -> bool
+    ensures { result ≡ list_any (λ t. t) (one ∷ other ∷ []) }
+{
+    one || other
+}
+
+fn any_three(one: bool, two: bool, three: bool) -> bool
+    ensures { result ≡ list_any (λ t. t) (one ∷ two ∷ three ∷ []) }
+{
+    one || two || three
+}
+
+/// Whether an aggregate stands in an operand of a form.
+#[cycle(grouping)]
+fn in_operands(form: &Form) -> bool
+    ensures { result ≡ list_any has_aggregate (parts (out-Form form.now)) }
+{
+    match form {
+        Form::Or(es) | Form::And(es) => in_some(es.as_slice()),
+        Form::Call { args, .. } => in_some(args.as_slice()),
+        Form::Xor(left, right)
+        | Form::Compare { left, right, .. }
+        | Form::Arith { left, right, .. } => {
+            any_two(has_aggregate(left.get()), has_aggregate(right.get()))
+        }
+        Form::Like { expr, pattern, .. } => {
+            any_two(has_aggregate(expr.get()), has_aggregate(pattern.get()))
+        }
+        Form::In { expr, list, .. } => has_aggregate(expr.get()) || in_some(list.as_slice()),
+        Form::Between {
+            expr,
+            low,
+            high,
+            ..
+        } => any_three(
+            has_aggregate(expr.get()),
+            has_aggregate(low.get()),
+            has_aggregate(high.get()),
+        ),
+        Form::Trim { removed, text, .. } => match removed {
+            Some(removed) => any_two(has_aggregate(removed.get()), has_aggregate(text.get())),
+            None => any_one(has_aggregate(text.get())),
+        },
+        Form::SubstringFrom { expr, start, len } => match len {
+            Some(len) => any_three(
+                has_aggregate(expr.get()),
+                has_aggregate(start.get()),
+                has_aggregate(len.get()),
+            ),
+            None => any_two(has_aggregate(expr.get()), has_aggregate(start.get())),
+        },
+        Form::Not(expr)
+        | Form::IsNull { expr, .. }
+        | Form::Neg(expr)
+        | Form::Collate { expr, .. }
+        | Form::Convert { expr, .. }
+        | Form::CastChar { expr, .. }
+        | Form::CastBinary(expr)
+        | Form::CountDistinct(expr)
+        | Form::WeightString { expr, .. } => any_one(has_aggregate(expr.get())),
+        Form::Int(_)
+        | Form::True
+        | Form::False
+        | Form::Null
+        | Form::Str(_)
+        | Form::National(_)
+        | Form::Hex(_)
+        | Form::IntroStr { .. }
+        | Form::IntroHex { .. }
+        | Form::Name(_)
+        | Form::Qualified { .. }
+        | Form::CountAll => false,
+    }
+}
+
+/// Whether an aggregate stands in one of these expressions.
+#[cycle(grouping)]
+fn in_some(es: &[Expr]) -> bool
+    ensures { result ≡ list_any has_aggregate es.now }
+{
+    for e in es {
+        if has_aggregate(e) {
+            return true;
+        }
+    }
+    false
+}
+
+/// Whether an aggregate stands in one of these items.
+fn in_items(items: &[Item]) -> bool
+    ensures { result ≡ list_any (λ item. has_aggregate item.expr) items.now }
+{
+    for item in items {
+        if has_aggregate(&item.expr) {
+            return true;
+        }
+    }
+    false
+}
+
+/// Whether an aggregate stands in WHERE.
+fn in_filter(filter: &Option<Expr>) -> bool
+    ensures { result ≡ option_map_or has_aggregate filter.now false }
+{
+    match filter {
+        Some(e) => has_aggregate(e),
+        None => false,
+    }
+}
+
+/// Whether an aggregate stands in one of these keys.
+fn in_orders(orders: &[OrderItem]) -> bool
+    ensures { result ≡ list_any (λ o. has_aggregate o.expr) orders.now }
+{
+    for order in orders {
+        if has_aggregate(&order.expr) {
+            return true;
+        }
+    }
+    false
+}
+
+/// Whether there is no GROUP BY.
+fn has_no_groups(groups: &[Expr]) -> bool
+    ensures { result ≡ has_no_groups groups.now }
+{
+    groups.is_empty()
+}
+
+/// Whether no aggregate and no GROUP BY stands in a statement: MySQL 8.0 manual, 12.19.3.
+#[tactic(auto, unfolding(crate::specs::Grouping::is_ungrouped))]
+pub fn is_ungrouped(statement: &Statement) -> bool
+    ensures is { result ≡ is_ungrouped statement.now }
+    ensures ungrouped { OnTrue result (IsUngrouped statement.now) }
+{
+    has_no_groups(statement.groups.as_slice())
+        && !in_items(statement.items.as_slice())
+        && !in_filter(&statement.filter)
+        && !in_orders(statement.orders.as_slice())
+}
