@@ -45,12 +45,20 @@ text_function func.Replace = replace_value
 text_function function = λ set values. value.Null
 
 -- CHAR_LENGTH and LENGTH: characters and bytes.
+abbrev pub char_length : Value → Value
+char_length (value.Str set text) = value.Int (pos (length (chars set text)))
+char_length it = value.Null
+
 abbrev pub char_length_value : List Value → Value
-char_length_value (value.Str set text ∷ []) = value.Int (pos (length (chars set text)))
+char_length_value (it ∷ []) = char_length it
 char_length_value values = value.Null
 
+abbrev pub byte_length : Value → Value
+byte_length (value.Str set text) = value.Int (pos (length text))
+byte_length it = value.Null
+
 abbrev pub length_value : List Value → Value
-length_value (value.Str set text ∷ []) = value.Int (pos (length text))
+length_value (it ∷ []) = byte_length it
 length_value values = value.Null
 
 -- HEX in a set, of the bytes of a text or of a number; its digits are held to the greatest length
@@ -71,14 +79,23 @@ sign_of Less = negsuc 0
 sign_of Equal = pos 0
 sign_of Greater = pos 1
 
+abbrev pub sign_between : Meaning → Value → Value → Value
+sign_between m (value.Str one text) (value.Str other more) =
+    value.Int (sign_of (text_order m (value.Str one text) (value.Str other more)))
+sign_between m one other = value.Null
+
 abbrev pub strcmp_value : (ℕ → Meaning) → Option Operand → List Value → Value
-strcmp_value meaning (Some uses) (value.Str one text ∷ value.Str other more ∷ []) = value.Int
-    (sign_of (text_order (meaning uses.collation.0) (value.Str one text) (value.Str other more)))
+strcmp_value meaning (Some uses) (one ∷ other ∷ []) =
+    sign_between (meaning uses.collation.0) one other
 strcmp_value meaning uses values = value.Null
 
 -- MOD, as `%`.
+abbrev pub rest_of : Value → Value → Value
+rest_of (value.Int x) (value.Int y) = remainder x y
+rest_of one other = value.Null
+
 abbrev pub mod_value : List Value → Value
-mod_value (value.Int x ∷ value.Int y ∷ []) = remainder x y
+mod_value (one ∷ other ∷ []) = rest_of one other
 mod_value values = value.Null
 
 abbrev pub text_call : Func → Option Operand → List Value → Value

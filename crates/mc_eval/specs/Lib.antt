@@ -7,6 +7,7 @@ pub mod Texts
 pub mod Comparisons
 pub mod TextFunctions
 pub mod Functions
+pub mod Taken
 pub mod Weights
 pub mod Layers
 pub mod Matches
@@ -14,3 +15,7 @@ pub mod Node
 pub mod Value
 pub mod Fit
 pub mod Acceptance
+pub mod Shapes
+pub mod Walk
+pub mod Typed
+pub mod Restated

@@ -1,27 +1,51 @@
 //! Values of typed expressions in a row: MySQL 8.0 manual, 12.
 //!
-//! `specs/Value` says what comes of an expression in a row, a value or a fault: of its node over what
-//! comes of its operands, by the cases of `specs/Node`. `specs/Truths`, `Arithmetic`, `Comparisons`,
-//! `Matches`, `TextFunctions`, `Functions` and `Weights` have the operations, `specs/Acceptance` the
-//! rows that conjuncts accept. The operations are evaluated here; the walk over an expression and
-//! the string functions are still to come.
+//! [`eval`] gives the value of an expression in a row, [`accepts`] tells whether a list of conjuncts
+//! accepts a row. `specs/Value` says what comes of an expression in a row, a value or a fault: of
+//! its node over what comes of its operands, by the cases of `specs/Node`. `specs/Truths`,
+//! `Arithmetic`, `Comparisons`, `Matches`, `TextFunctions`, `Functions` and `Weights` have the
+//! operations, `specs/Acceptance` the rows that conjuncts accept, `specs/Fit` what an expression
+//! needs to be evaluated, `specs/Typed` what its type says of its value, `specs/Restated` nodes in
+//! terms of other ones. `specs/Shapes` and `Walk` say how the walk goes.
 //!
 //! Read `fault`, `held` (a value that is lent or made), `truth`, `operands`; `arithmetic`; `texts`,
-//! `comparisons`, `betweens`, `likes`; `results`, `text_operands`, `conversions`, `weights`.
+//! `comparisons`, `betweens`, `lists`, `likes`; `results`, `text_operands`, `conversions`,
+//! `weights`; of calls `taken` (their operands by their number), `measures`, `digits`, `slices`,
+//! `pads`, `trims`, `replacements`, `joins`, and `functions`, which has them all; `constants`,
+//! `nodes`, `shape`, `walk` and `values`; and `laws`, which other crates prove with.
 #![tactic(auto)]
 
 mod arithmetic;
 mod betweens;
 mod comparisons;
+mod constants;
 mod conversions;
+mod digits;
 mod fault;
+mod functions;
 mod held;
+mod joins;
+mod laws;
 mod likes;
+mod lists;
+mod measures;
+mod nodes;
 mod operands;
+mod pads;
+mod replacements;
 mod results;
+mod shape;
+mod slices;
+mod taken;
 mod text_operands;
 mod texts;
+mod trims;
 mod truth;
+mod values;
+mod walk;
 mod weights;
 
 pub use fault::EvalFault;
+pub use laws::{evaluation_law, operations_law};
+pub use truth::Truth;
+pub use values::{accepts, eval};

@@ -6,7 +6,7 @@ ghost use Rattle.mc_eval.specs.Outcomes.{Outcome, of_two};
 ghost use Rattle.mc_eval.specs.Truths.{told, turned};
 ghost use Rattle.mc_values.specs.Values.{IsTextOfSet};
 ghost use Rattle.mc_values.specs.declared.value.Value.TheVariants as value;
-ghost use Rattle.std.specs.Prelude.{◌≡◌, ◌<◌, IfOk, IsTrue};
+ghost use Rattle.std.specs.Prelude.{◌≡◌, ◌<◌, ◌≤◌, IfOk, IsTrue};
 
 use crate::fault::EvalFault;
 use crate::held::Held;
@@ -35,8 +35,9 @@ fn liked_by<B: Book, W>(
     requires in_book { id.0 < B.count book.now }
     requires text { IsWellFormed set text.now }
     requires pattern { IsWellFormed pattern_set pattern.now }
-    ensures { IfOk result (λ it. it ≡ liked_by (B.meaning book.now id.0) escape
+    ensures told { IfOk result (λ it. it ≡ liked_by (B.meaning book.now id.0) escape
         (value.Str set text.now) (value.Str pattern_set pattern.now)) }
+    ensures later { work.old ≤ work.new }
 {
     let collation = book.by_id(id);
     let to = collation.charset();
@@ -60,8 +61,9 @@ fn liked<B: Book, W>(
     requires in_book { IsTrue (is_in_book (B.count book.now) coll) }
     requires one { IsTextOfSet one.now }
     requires other { IsTextOfSet other.now }
-    ensures { IfOk result (λ it.
+    ensures told { IfOk result (λ it.
         it ≡ liked (B.meaning book.now) coll escape one.now other.now) }
+    ensures later { work.old ≤ work.new }
 {
     match coll {
         None => Ok(Truth::Unknown),
@@ -96,6 +98,7 @@ pub(crate) fn matched<'a, B: Book, W>(
         TellsHeld (of_two (λ a b. told (turned negated
         (liked (B.meaning book.now) coll escape a b))) x y) result }
     ensures kept { HoldsKept result }
+    ensures later { work.old ≤ work.new }
 {
     match one {
         Ok(one) => match other {

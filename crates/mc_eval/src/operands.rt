@@ -12,6 +12,7 @@ use crate::held::Held;
 use crate::truth::Truth;
 use mc_base::NoMemory;
 use mc_values::{Row, Value};
+use std::alloc::Global;
 
 /// The value at a place of a row; NULL where it has no such place.
 pub(crate) fn at_place<'a>(row: &'a Row, place: u32) -> Result<Held<'a>, EvalFault>
@@ -33,6 +34,21 @@ pub(crate) fn made<'a>(answer: Result<Value, EvalFault>) -> Result<Held<'a>, Eva
 {
     match answer {
         Ok(value) => Ok(Held::Made(value)),
+        Err(fault) => Err(fault),
+    }
+}
+
+/// What came of an operand, as a value of its own.
+pub(crate) fn owned(alloc: Global, operand: Result<Held<'_>, EvalFault>) -> Result<Value, EvalFault>
+    requires { HoldsKept operand }
+    ensures told { (o : Outcome) → TellsHeld o operand.entry → Tells o result }
+    ensures kept { GivesKept result }
+{
+    match operand {
+        Ok(held) => match held.into_value(alloc) {
+            Ok(value) => Ok(value),
+            Err(NoMemory) => Err(EvalFault::NoMemory),
+        },
         Err(fault) => Err(fault),
     }
 }

@@ -2,7 +2,7 @@ ghost use Rattle.mc_charset.specs.Chars.{IsWellFormed, Spells};
 ghost use Rattle.mc_eval.specs.Outcomes.{IsValue};
 ghost use Rattle.mc_eval.specs.Texts.{spelled, text_or_null};
 ghost use Rattle.mc_strfun.specs.Joins.{spelled_within};
-ghost use Rattle.mc_values.specs.Values.{greatest_string};
+ghost use Rattle.mc_values.specs.Values.{greatest_string, within_limit};
 ghost use Rattle.std.specs.Option.{option_and_then};
 ghost use Rattle.std.specs.Prelude.{◌≡◌, ◌≤◌, IfSome, List, Option, ℕ, length};
 
@@ -32,6 +32,26 @@ pub(crate) fn within(set: Charset, text: Option<Text>) -> Value
         Some(text) => Value::Str { charset: set, text },
         None => Value::Null,
     }
+}
+
+/// The same of the text that some characters spell.
+#[tactic(auto, using(crate::proofs::Spelled::well_formed, crate::proofs::Spelled::short))]
+pub(crate) fn spelled(set: Charset, text: Option<Text>) -> Value
+    ensures { (codes : List ℕ) → text ≡ spelled_within set codes →
+        IsValue (spelled set codes) result }
+{
+    match text {
+        Some(text) => Value::Str { charset: set, text },
+        None => Value::Null,
+    }
+}
+
+/// The same of bytes within the greatest length, which some characters spell.
+pub(crate) fn repeated(set: Charset, text: Option<Text>) -> Value
+    ensures { (codes bytes : List ℕ) → Spells set codes bytes → text ≡ within_limit bytes →
+        IsValue (spelled set codes) result }
+{
+    spelled(set, text)
 }
 
 /// The text of a set as a value; NULL where it is too long.

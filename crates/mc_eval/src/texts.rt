@@ -4,14 +4,15 @@ ghost use Rattle.mc_eval.specs.SetTexts.{set_text};
 ghost use Rattle.std.specs.Prelude.{◌≡◌, ◌<◌, ◌^◌, IfOk, length};
 
 use mc_base::{NoMemory, Text};
-use mc_charset::{Charset, same_set};
-use mc_convert::convert;
+use mc_charset::{Charset, bytes_law};
+use mc_convert::{conversion_law, convert, keeps_bytes};
+use mc_strfun::TextLike;
 use std::alloc::Global;
 
 /// How many bytes no text of an operand has: 4 GiB.
 const TOO_LONG: usize = 0x1_0000_0000;
 
-/// The text of an operand in the set of its operation: lent where it is in it, else converted.
+/// The text of an operand in the set of its operation: lent where its bytes stay, else converted.
 #[derive(Drop)]
 pub(crate) enum SetText<'a> {
     Lent(&'a Text),
@@ -40,6 +41,14 @@ impl<'a> SetText<'a> {
     }
 }
 
+impl<'a> TextLike for SetText<'a> {
+    ghost bytes = { set_text };
+
+    fn bytes(&self) -> &[u8] {
+        self.get().as_slice()
+    }
+}
+
 /// A text in another set, of which memory has no 4 GiB.
 fn converted(alloc: Global, from: Charset, to: Charset, text: &Text) -> Result<Text, NoMemory>
     requires { IsWellFormed from text.now }
@@ -56,7 +65,6 @@ fn converted(alloc: Global, from: Charset, to: Charset, text: &Text) -> Result<T
 }
 
 /// The text of an operand in the set of its operation.
-#[tactic(auto, using(crate::proofs::OwnText::in_own_set))]
 pub(crate) fn in_set<'a>(
     alloc: Global,
     to: Charset,
@@ -68,7 +76,9 @@ pub(crate) fn in_set<'a>(
     ensures well_formed { IfOk result (λ it. IsWellFormed to (set_text it)) }
     ensures below_4_gib { IfOk result (λ it. length (set_text it) < 2 ^ 32) }
 {
-    if same_set(from, to) && text.len() < TOO_LONG {
+    conversion_law();
+    bytes_law(text.as_slice());
+    if keeps_bytes(from, to) && text.len() < TOO_LONG {
         return Ok(SetText::Lent(text));
     }
     Ok(SetText::Made(converted(alloc, from, to, text)?))

@@ -1,3 +1,4 @@
+ghost use Rattle.mc_eval.specs.Acceptance.{TellsAcceptance, firm};
 ghost use Rattle.mc_eval.specs.Held.{TellsHeld};
 ghost use Rattle.mc_eval.specs.Outcomes.{GivesKept, Outcome, Tells};
 ghost use Rattle.mc_eval.specs.Truths.{
@@ -17,14 +18,16 @@ use crate::held::Held;
 use mc_base::NoMemory;
 use mc_values::Value;
 
-/// The truth of a condition, in a chain.
+/// The truth of a condition, in the chain in which AND takes the least.
 #[derive(Clone, Copy, Debug, PartialEq, Eq)]
-pub(crate) enum Truth {
+pub enum Truth {
+    /// A false one.
     No,
     /// A number is outside 64 bits.
     Faulty,
     /// NULL.
     Unknown,
+    /// A true one.
     Yes,
 }
 
@@ -97,6 +100,27 @@ impl Truth {
             (Truth::Unknown, _) | (_, Truth::Unknown) => Truth::Unknown,
             (Truth::Yes, Truth::No) | (Truth::No, Truth::Yes) => Truth::Yes,
             (Truth::Yes, Truth::Yes) | (Truth::No, Truth::No) => Truth::No,
+        }
+    }
+
+    /// What a condition makes of it: NULL accepts no row.
+    pub(crate) fn firm(self) -> Truth
+        ensures { result ≡ firm self }
+    {
+        match self {
+            Truth::Unknown => Truth::No,
+            Truth::No | Truth::Faulty | Truth::Yes => self,
+        }
+    }
+
+    /// Whether it accepts a row.
+    pub(crate) fn accepts(self) -> Result<bool, EvalFault>
+        ensures { TellsAcceptance (firm self) result }
+    {
+        match self {
+            Truth::No | Truth::Unknown => Ok(false),
+            Truth::Faulty => Err(EvalFault::OutOfRange),
+            Truth::Yes => Ok(true),
         }
     }
 

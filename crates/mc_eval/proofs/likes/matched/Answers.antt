@@ -16,4 +16,4 @@ returns-in-Ok-other-clause-told g c = λ x y h k.
     (sym (pair_told f x y _ _ _ _ (subst (λ r. TellsHeld x r) c.in-Ok.is h)
     (subst (λ r. TellsHeld y r) c.in-Ok-other.is k) c.get.ensures c.get-in-Ok-other.ensures))
     (c.made_truth.ensures.told (liked m c.args.coll c.args.escape c.get.result.now c.get-in-Ok-other.result.now)
-    c.liked.ensures)
+    c.liked.ensures.told)
