@@ -1,0 +1,12 @@
+pub mod Lists
+pub mod Cells
+pub mod Totals
+pub mod Sorting
+pub mod Places
+pub mod AllNull
+pub mod Ranges
+pub mod GroupNumbers
+pub mod Delimited
+pub mod SameRows
+pub mod OneOrder
+pub mod SameCases
