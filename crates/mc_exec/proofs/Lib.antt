@@ -1,0 +1,11 @@
+pub mod Scans
+pub mod Filled
+pub mod Lengths
+pub mod Readable
+pub mod Rows
+pub mod Sorted
+pub mod Placed
+pub mod Limits
+pub mod ShownRows
+pub mod KeyRows
+pub mod Places

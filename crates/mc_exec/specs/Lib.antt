@@ -1,0 +1,9 @@
+pub mod Stored
+pub mod Source
+pub mod Kept
+pub mod Given
+pub mod Ordered
+pub mod FullScan
+pub mod Work
+pub mod Told
+pub mod Steps
