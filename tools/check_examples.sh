@@ -3,7 +3,8 @@
 # the words that only the script ./mycoll knows.
 #
 # A folder holds `words` (the words of the command, one a line), `expected` (what is printed) and,
-# where it isn't 0, `status`. The last line counts: N passed, M failed.
+# where it isn't 0, `status`. One with `command` in place of `words` is a tool's, run by the tool's
+# own tests. The last line counts: N passed, M failed.
 top=$(cd "$(dirname "$0")/.." && pwd)
 room=$(mktemp -d)
 trap 'rm -rf "$room"' EXIT
@@ -38,6 +39,7 @@ expect "README: ./mycoll -e" "'a' = 'a  '"$'\n1' 0 "$top" -e "SELECT 'a' = 'a  '
 
 for folder in "$top"/examples/*/; do
     name=$(basename "$folder")
+    [ -f "$folder/command" ] && continue
     mapfile -t words <"$folder/words"
     wanted_status=0
     [ -f "$folder/status" ] && wanted_status=$(cat "$folder/status")

@@ -1,6 +1,7 @@
 #!/bin/bash
-# Compares `=` as mycoll answers it, over weight tables exported from a server on this machine, with
-# `=` as that server answers it.
+# Compares mycoll's answers, over weight tables exported from a server on this machine, with that
+# server's own: `=` over pairs of strings, and the groups of two tables of names, which it fills,
+# dumps and hands to check_migration.py, with GROUP BY.
 #
 #     tools/check_server.sh [PAIRS [SEED]]      2,000 pairs of strings for each collation; seed 1
 #
@@ -9,11 +10,15 @@
 # with status 0. Status 1: some answers differ, or something failed.
 #
 # Variables: MYCOLL is the full path of the program in place of ./mycoll, SERVER that of the server
-# in place of the first one found.
+# in place of the first one found. PARTS are the parts that run ("pairs groups"), NAMES the rows of
+# each table (4,000). ELEMENTS is the full path of allkeys-4.0.0.txt: where it is given, the groups
+# are compared under utf8mb4_unicode_ci too.
 top=$(cd "$(dirname "$0")/.." && pwd)
 pairs=${1:-2000}
 seed=${2:-1}
 mycoll=${MYCOLL:-$top/mycoll}
+names=${NAMES:-4000}
+parts=${PARTS:-pairs groups}
 collations=(latin1_swedish_ci latin1_german1_ci latin1_german2_ci ascii_general_ci
     utf8mb4_general_ci)
 servers=(mariadbd mysqld)
@@ -92,15 +97,59 @@ compare() { # a line of the catalog, whose file lies in the folder of the run
     python3 "$top/tools/check_pairs.py" compare "$name" script.sql mycoll.out server.out
 }
 
+compare_pairs() { # `=` in each collation
+    local status=0 line
+    echo "program: $mycoll; $pairs pairs of strings for each collation, seed $seed"
+    "$top/tools/export_weights.py" server --defaults-file "$folder/client.cnf" \
+        "${collations[@]}" >lines.txt || return 1
+    while read -r line; do
+        compare "$line" || status=1
+    done <lines.txt
+    return "$status"
+}
+
+compare_groups() { # the tables' collation, the new one, and the words that give weights
+    local old=$1 new=$2
+    echo "groups of two tables of at most $names names, $old to $new, seed $seed:"
+    rm -rf kept
+    {
+        echo "DROP DATABASE IF EXISTS names;"
+        python3 "$top/tools/check_groups.py" make "$old" "$names" "$seed"
+    } | ask || return 1
+    "$dumper" --defaults-file="$folder/client.cnf" names >names.sql || return 1
+    "$top/tools/check_migration.py" names.sql --to "$new" "${@:3}" --keep kept \
+        --mycoll "$mycoll" >report.txt
+    grep '^summary: ' report.txt || return 1
+    python3 "$top/tools/check_groups.py" groups "$new" | ask >groups.out || return 1
+    python3 "$top/tools/check_groups.py" compare kept groups.out
+}
+
+check_groups() { # towards each collation whose weights are there
+    local status=0
+    if ! dumper=$(first_of mariadb-dump mysqldump); then
+        echo "neither mariadb-dump nor mysqldump on this machine: no groups were compared"
+        return 0
+    fi
+    "$top/tools/export_weights.py" server --force --defaults-file "$folder/client.cnf" \
+        utf8mb4_general_ci >/dev/null || return 1
+    compare_groups utf8mb4_bin utf8mb4_general_ci --weights utf8mb4_general_ci.txt || status=1
+    if [ -n "$ELEMENTS" ]; then
+        compare_groups utf8mb4_general_ci utf8mb4_unicode_ci \
+            --weights utf8mb4_general_ci.txt --weights "$ELEMENTS" || status=1
+    fi
+    return "$status"
+}
+
 make_data >"$folder/install.log" 2>&1 || fail "no data folder was made" "$folder/install.log"
 start_server
 echo "server: $("$server" --version)"
-echo "program: $mycoll; $pairs pairs of strings for each collation, seed $seed"
 cd "$folder" || exit 1
-"$top/tools/export_weights.py" server --defaults-file "$folder/client.cnf" "${collations[@]}" \
-    >lines.txt || exit 1
 status=0
-while read -r line; do
-    compare "$line" || status=1
-done <lines.txt
+for part in $parts; do
+    case $part in
+        pairs) compare_pairs || status=1 ;;
+        groups) check_groups || status=1 ;;
+        *) echo "check_server.sh: no part $part: pairs or groups" >&2 && status=1 ;;
+    esac
+done
 exit "$status"

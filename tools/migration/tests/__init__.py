@@ -1,0 +1,1 @@
+"""Tests of check_migration.py, whose mycoll is played by stand_in.py."""
