@@ -10,7 +10,7 @@ use Rattle.mycoll.specs.declared.output.Stopped.TheVariants.{Fault, NoMemory}
 use Rattle.mycoll.specs.declared.said.Said.{Said}
 use Rattle.mycoll.specs.Answering.{AnswersWritten, AllWritten, Written}
 use Rattle.mycoll.specs.Answers.{IsAnswer, Answered, AreFirst, is_refusal, said_texts, some_refused}
-use Rattle.mycoll.specs.Print.{said_text}
+use Rattle.mycoll.specs.SaidTexts.{said_text}
 use Rattle.mycoll.specs.World.{World, State}
 
 -- Of the statements of a script these are left: the ones before them were answered, in this state
@@ -124,6 +124,12 @@ stopped_before w s script rest left refused before now so = record {
   first = are_first w s script rest left refused before now so;
   written = so.written;
 }
+
+-- Memory ran out before the first answer.
+pub none_answered : (w : World) (s : State) (script : List ℕ) (before : Option (List ℕ))
+    → AnswersWritten w s script (Err NoMemory) before before
+none_answered w s script before =
+    stopped_before w s script (statements script 0) s false before before (none_so_far w s script before)
 
 -- A front of y, with x before it, is a front of the whole.
 front_behind : (x y : List ℕ) (n : ℕ) → (k : ℕ) × (take k (x ++ y) ≡ x ++ take n y)

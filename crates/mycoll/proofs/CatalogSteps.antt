@@ -1,6 +1,7 @@
 -- What a catalog's text gives, by what its reader says.
-use Rattle.std.proofs.Common.{arith, ◌≡◌, ◌≢◌, ◌↔◌, ℕ, Bool, true, false, ◌&&◌, List, [], ◌∷◌, Option, Some, None, Result, Ok, Err, drop, refl, sym, ap, ◌∙◌}
-use Rattle.std.specs.Prelude.{IsTrue, All, if◌then◌else◌, codes}
+use Rattle.std.proofs.Common.{arith, ◌≡◌, ◌≢◌, ◌↔◌, Bool, true, false, List, Option, Some, None, Result, Ok, Err, drop, refl, sym, ap, ◌∙◌}
+use Rattle.std.specs.Prelude.{IsTrue, ℕ, All, if◌then◌else◌, codes}
+use Rattle.std.specs.List.{list_all}
 use Rattle.std.specs.Result.{result_map_both}
 use Rattle.std.proofs.lemmas.List.Sums.{list_all-from_AllPass, AllPass-from_list_all}
 use Rattle.std.proofs.lemmas.Result.{IfOk-at_ok}
@@ -15,21 +16,25 @@ use Rattle.mc_catalog.specs.Limits.{built_in_count}
 use Rattle.mc_catalog.specs.Outcome.{catalog_outcome}
 use Rattle.mc_catalog.specs.declared.catalog.Catalog.{Catalog}
 use Rattle.mc_catalog.specs.declared.catalog.CollDecl.{CollDecl}
-use Rattle.mc_catalog.specs.declared.catalog.TableDecl.{TableDecl}
 use Rattle.mc_catalog.specs.declared.fault.CatalogFault.{CatalogFault}
 use Rattle.mc_catalog.specs.declared.fault.CatalogFaultKind.TheVariants.{NoMemory}
-use Rattle.mycoll.specs.Outcome.{has_no_table, is_built, built_outcome, catalog_refusal, built_catalog, named_catalog}
+use Rattle.mycoll.specs.Outcome.{is_built_catalog, built_outcome, catalog_refusal, built_catalog, named_catalog}
 
-no_tables : (tables : List TableDecl) (empty : Bool) → (IsTrue empty ↔ (tables ≡ [])) → empty ≡ has_no_table tables
-no_tables [] empty h = h.1 refl
-no_tables (table ∷ tables) true h = let one : table ∷ tables ≡ [] = h.0 refl in cc
-no_tables (table ∷ tables) false h = refl
+of_tests : (declared : List CollDecl) (b : Bool) → (IsTrue b ↔ All IsBuilt declared)
+    → b ≡ list_all (λ one. is_built_collation one) declared
+of_tests declared true h =
+    sym (list_all-from_AllPass (λ (one : CollDecl). is_built_collation one) declared (h.0 refl))
+of_tests declared false h = of (list_all (λ one. is_built_collation one) declared) refl
+  where
+    of : (c : Bool) → list_all (λ one. is_built_collation one) declared ≡ c → false ≡ list_all (λ one. is_built_collation one) declared
+    of true e = let one : IsTrue false =
+        h.1 (AllPass-from_list_all (λ (one : CollDecl). is_built_collation one) declared e) in cc
+    of false e = sym e
 
--- Where all collations are built, the tables decide.
-pub built_then : (catalog : Catalog) (empty : Bool) → All IsBuilt (drop 9 catalog.collations) → (IsTrue empty ↔ (catalog.tables ≡ [])) → empty ≡ is_built catalog
-built_then catalog empty h e =
-    no_tables catalog.tables empty e
-    ∙ ap (λ b. b && has_no_table catalog.tables) (sym (list_all-from_AllPass (λ (declared : CollDecl). is_built_collation declared) (drop 9 catalog.collations) h))
+-- All collations are built.
+pub built_then : (catalog : Catalog) (b : Bool) → (IsTrue b ↔ All IsBuilt (drop 9 catalog.collations))
+    → b ≡ is_built_catalog catalog
+built_then catalog b h = of_tests (drop 9 catalog.collations) b h
 
 -- What comes of what the reader gives.
 abbrev built_of : List ℕ → Result Catalog CatalogFault → Result Catalog FileRefusal
@@ -60,17 +65,13 @@ refused_told name text fault OutOfMemory h r m = tt
 abbrev AllBuilt : Catalog → Type 0
 AllBuilt catalog = All IsBuilt (drop built_in_count catalog.collations)
 
-left_true : (a b : Bool) → (a && b) ≡ true → a ≡ true
-left_true true b e = refl
-left_true false b e = e
-
 built_from : (name : List ℕ) (read catalog : Catalog) → built_outcome name read ≡ Ok catalog → AllBuilt catalog
-built_from name read catalog e = of (is_built read) refl e
+built_from name read catalog e = of (is_built_catalog read) refl e
   where
-    of : (b : Bool) → is_built read ≡ b → (if b then Ok read else Err (file_refusal name (codes "NotBuilt") 0)) ≡ Ok catalog
+    of : (b : Bool) → is_built_catalog read ≡ b → (if b then Ok read else Err (file_refusal name (codes "NotBuilt") 0)) ≡ Ok catalog
         → AllBuilt catalog
     of true b e = IfOk-at_ok AllBuilt e
-        (AllPass-from_list_all (λ (declared : CollDecl). is_built_collation declared) (drop built_in_count read.collations) (left_true _ _ b))
+        (AllPass-from_list_all (λ (declared : CollDecl). is_built_collation declared) (drop built_in_count read.collations) b)
     of false b e = cc
 
 built_read : (name : List ℕ) (read : Result Catalog CatalogFault) (catalog : Catalog) → built_of name read ≡ Ok catalog

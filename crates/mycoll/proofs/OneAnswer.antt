@@ -12,7 +12,7 @@ use Rattle.mc_token.specs.Tokens.{tokens_of}
 use Rattle.mc_token.specs.declared.lexeme.LexFault.{LexFault}
 use Rattle.mc_token.specs.declared.lexeme.Token.{Token}
 use Rattle.mycoll.specs.Answers.{Answered, AreAll, AreFirst, IsAnswer, read_said}
-use Rattle.mycoll.specs.Reading.{TokensRead, parse_refusal}
+use Rattle.mycoll.specs.Reading.{Reads, TokensRead, parse_refusal}
 use Rattle.mycoll.specs.World.{World, State}
 use Rattle.mycoll.specs.declared.said.Said.{Said}
 
@@ -51,11 +51,16 @@ read_once once end (Err fault) (Err r) (Err t) p q = ap (λ (z : Refusal). Err z
 read_once once end (Err fault) (Ok a) b p q = absurd p
 read_once once end (Err fault) (Err r) (Ok b) p q = absurd q
 
+-- A statement reads at most one way.
+pub one_read : OneOutcome → (script : List ℕ) (statement : Span) (a b : Result Statement Refusal)
+    → Reads script statement a → Reads script statement b → a ≡ b
+one_read once script statement a b p q = read_once once statement.end (tokens_of script statement) a b p q
+
 pub one_answer : OneOutcome → (w : World) (before : State) (script : List ℕ) (statement : Span) (said other : Said) (after behind : State)
     → IsAnswer w before script statement said after → IsAnswer w before script statement other behind
     → (said ≡ other) × (after ≡ behind)
 one_answer once w before script statement said other after behind a b =
-    let same : a.read ≡ b.read = read_once once statement.end (tokens_of script statement) a.read b.read a.reads b.reads in (
+    let same : a.read ≡ b.read = one_read once script statement a.read b.read a.reads b.reads in (
       a.told ∙ ap (λ (z : Result Statement Refusal). (read_said w before script z).0) same ∙ sym b.told,
       a.left ∙ ap (λ (z : Result Statement Refusal). (read_said w before script z).1) same ∙ sym b.left,
     )

@@ -2,19 +2,19 @@
 use Rattle.std.proofs.Common.{◌≡◌, ℕ, Bool, true, false, List, Option, Some, None, Result, Ok, Err, IfSome, refl, sym, ap, subst, inl, inr}
 use Rattle.std.specs.Option.{option_map}
 use Rattle.mc_base.specs.declared.refusal.FileRefusal.{FileRefusal}
-use Rattle.mc_token.specs.Statements.{statements}
 use Rattle.mycoll.specs.declared.status.Status.{Status}
 use Rattle.mycoll.specs.declared.status.Status.TheVariants.{Done, SomeRefused, Usage, FilesRefused, ReadFault, WriteFault, NoMemory}
 use Rattle.mycoll.specs.declared.output.Stopped.{Stopped}
 use Rattle.mycoll.specs.declared.output.Stopped.TheVariants.{Fault, NoMemory as OutOfMemory}
 use Rattle.mycoll.specs.Answering.{AnswersWritten, Written}
 use Rattle.mycoll.specs.Outcome.{Accepted, files_outcome, refused_line}
-use Rattle.mycoll.specs.Run.{Task, accepted_state, accepted_world, task, files_task, HasWritten, LineWritten, ScriptWritten, IsComplete, ReadCause, WriteCause, answered_status, line_status}
+use Rattle.mycoll.specs.Run.{Task, accepted_state, accepted_world, task, files_task, IsSpentOn, HasWritten, LineWritten, ScriptWritten, IsComplete, ReadCause, WriteCause, answered_status, line_status}
 use Rattle.mycoll.specs.Run.Task.{one_line, script_task}
 use Rattle.mycoll.specs.Words.{FileNames, WordsForm, words_form, usage_line}
 use Rattle.mycoll.specs.Words.WordsForm.{file_words, no_form}
 use Rattle.mycoll.specs.World.{World, State}
-use Rattle.mycoll.proofs.AnsweringSteps.{none_so_far, stopped_before}
+use Rattle.mycoll.proofs.AnsweringSteps.{none_answered}
+use Rattle.mycoll.proofs.CostSteps.{unspent}
 
 -- The contents of files, if they are told.
 abbrev Told : Type 0
@@ -51,7 +51,7 @@ unread_written (script_task w s script) before = refl
 lacking_written : (t : Task) (before : Option (List ℕ)) → HasWritten t NoMemory before before
 lacking_written (one_line text ends) before = refl
 lacking_written (script_task w s script) before =
-    stopped_before w s script (statements script 0) s false before before (none_so_far w s script before)
+    none_answered w s script before
 
 -- The task of the files is that of their outcome.
 abbrev outcome_task : Result Accepted FileRefusal → Task
@@ -116,21 +116,39 @@ usage_run told words r status before after h e w =
     subst (λ (form : WordsForm). IfSome (words_task told form) (λ t. HasWritten t status before after)) (sym h)
     (subst (λ (s : Status). LineWritten usage_line Usage s before after) (sym e) (usage_written usage_line r before after w))
 
-mapped : (told : Told) (named : FileNames) (status : Status) (before after : Option (List ℕ))
-    → IfSome told (λ files. HasWritten (files_task files named) status before after)
-    → IfSome (option_map (λ (files : List ℕ → Option (List ℕ)). files_task files named) told) (λ t. HasWritten t status before after)
-mapped None named status before after h = tt
-mapped (Some files) named status before after h = h
+mapped : (P : Task → Type 0) (told : Told) (named : FileNames)
+    → IfSome told (λ files. P (files_task files named))
+    → IfSome (option_map (λ (files : List ℕ → Option (List ℕ)). files_task files named) told) P
+mapped P None named h = tt
+mapped P (Some files) named h = h
 
--- Words of a form, whose files were answered so.
-pub named_run : (told : Told) (words : List (List ℕ)) (named : FileNames) (status : Status) (before after : Option (List ℕ))
-    → words_form words ≡ file_words named
-    → IfSome told (λ files. HasWritten (files_task files named) status before after)
-    → IfSome (task told words) (λ t. HasWritten t status before after)
+-- What holds of the files' task holds of the task of words that name them.
+pub named_run : (P : Task → Type 0) (told : Told) (words : List (List ℕ)) (named : FileNames)
+    → words_form words ≡ file_words named → IfSome told (λ files. P (files_task files named))
+    → IfSome (task told words) P
 unfolding task
-named_run told words named status before after h w =
-    subst (λ (form : WordsForm). IfSome (words_task told form) (λ t. HasWritten t status before after)) (sym h)
-    (mapped told named status before after w)
+named_run P told words named h w =
+    subst (λ (form : WordsForm). IfSome (words_task told form) P) (sym h) (mapped P told named w)
+
+-- Nothing was spent on a task that isn't begun.
+pub idle : (t : Option Task) (fetched compared : ℕ)
+    → IfSome t (λ t. IsSpentOn t fetched fetched compared compared)
+idle None fetched compared = tt
+idle (Some t) fetched compared = λ cost _. unspent cost fetched compared
+
+pub idle_files : (told : Told) (named : FileNames) (fetched compared : ℕ)
+    → IfSome told (λ files. IsSpentOn (files_task files named) fetched fetched compared compared)
+idle_files None named fetched compared = tt
+idle_files (Some files) named fetched compared = λ cost _. unspent cost fetched compared
+
+-- What was spent on the script of accepted files was spent on their task.
+pub script_spent : (told : Told) (named : FileNames) (accepted : Accepted) (fetched fetched' compared compared' : ℕ)
+    → IfSome told (λ files. files_outcome files named ≡ Ok accepted)
+    → IsSpentOn (script_task (accepted_world accepted) (accepted_state accepted) accepted.script) fetched fetched' compared compared'
+    → IfSome told (λ files. IsSpentOn (files_task files named) fetched fetched' compared compared')
+script_spent None named accepted fetched fetched' compared compared' h s = tt
+script_spent (Some files) named accepted fetched fetched' compared compared' h s =
+    subst (λ (t : Task). IsSpentOn t fetched fetched' compared compared') (sym (task-is files named (Ok accepted) h)) s
 
 -- A run that wrote so, and failed only where a device did, has done its task where none did.
 complete_line : (text : List ℕ) (ends status : Status) (before after : Option (List ℕ)) (reads reads' writes writes' : ℕ)

@@ -1,58 +1,41 @@
 -- What the statements of a script are answered with, one behind the other. Each is answered in the
 -- state that the ones before it left.
-use Rattle.std.specs.Prelude.{◌≡◌, ℕ, Bool, true, false, List, [], ◌∷◌, Some, None, map}
-use Rattle.std.specs.Prelude.{Result, Ok, Err, slice_range, take}
+use Rattle.std.specs.Prelude.{◌≡◌, ℕ, Bool, true, false, List, [], ◌∷◌, Option, Some, None}
+use Rattle.std.specs.Prelude.{Result, Ok, Err, take, if◌then◌else◌}
 use Rattle.std.specs.List.{list_any, flat_map}
-use Rattle.mc_ast.specs.declared.statement.Item.{Item}
 use Rattle.mc_ast.specs.declared.statement.Statement.{Statement}
-use Rattle.mc_base.specs.Results.{result_and_then}
 use Rattle.mc_base.specs.declared.refusal.Refusal.{Refusal}
 use Rattle.mc_base.specs.declared.span.Span.{Span}
+use Rattle.mc_exec.specs.FullScan.{answer}
 use Rattle.mc_token.specs.Statements.{statements}
-use Rattle.mycoll.specs.Built.{built}
-use Rattle.mycoll.specs.Forms.{expr_value}
-use Rattle.mycoll.specs.Messages.{not_built}
-use Rattle.mycoll.specs.Print.{said_text}
+use Rattle.mc_typing.specs.Statements.{typed_statement}
+use Rattle.mc_typing.specs.declared.typed.Typed.{Typed}
+use Rattle.mc_values.specs.declared.answer.Answer.{Answer}
+use Rattle.mycoll.specs.Built.{is_built}
+use Rattle.mycoll.specs.Messages.{not_built, out_of_range}
 use Rattle.mycoll.specs.Reading.{Reads}
-use Rattle.mycoll.specs.World.{World, State, connection_set}
+use Rattle.mycoll.specs.SaidTexts.{said_text}
+use Rattle.mycoll.specs.World.{World, State, session_of, stored_in}
 use Rattle.mycoll.specs.declared.said.Said.{Said}
 use Rattle.mycoll.specs.declared.said.Said.TheVariants.{Table, Refused}
-use Rattle.mycoll.specs.declared.said.Value.{Value}
 
--- The header of an item: its alias, else the script's own bytes.
-abbrev pub header_of : List ℕ → Item → List ℕ
-header_of script item = elim item.alias [
-  | Some name ↦ name
-  | None ↦ slice_range script item.span.start item.span.end
-]
+-- The table that is answered; where a number is outside 64 bits, the refusal of that.
+abbrev pub scan_said : Option Answer → Said
+scan_said (Some answer) = Table answer
+scan_said None = Refused out_of_range
 
--- A value, and those behind it, unless one of them is refused.
-abbrev pub with_value : Result (List Value) Refusal → Value → Result (List Value) Refusal
-with_value more value = result_and_then (λ values. Ok (value ∷ values)) more
-
--- The values of items; or the refusal of the first that has one.
-unfoldable pub values_of : World → State → List Item → Result (List Value) Refusal
-values_of w s [] = Ok []
-values_of w s (item ∷ items) =
-    result_and_then (with_value (values_of w s items)) (expr_value w s item.expr)
-
--- One row of these values.
-abbrev pub one_row : List (List ℕ) → List Value → Said
-one_row headers values = Table (record { header = headers; rows = values ∷ [] })
-
--- What items are answered with: a refusal, else one row under their headers.
-unfoldable pub items_said : World → State → List ℕ → List Item → Said
-items_said w s script items = elim (values_of w s items) [
-  | Ok values ↦ one_row (map (header_of script) items) values
-  | Err refusal ↦ Refused refusal
-]
+-- What a typed statement is answered with: the rows of a full scan. A refusal of typing is its
+-- answer.
+abbrev pub typed_said : World → State → Result Typed Refusal → Said
+typed_said w s (Ok q) = scan_said (answer (stored_in w s) w.meaning q)
+typed_said w s (Err refusal) = Refused refusal
 
 -- What a tree is answered with, and the state that it leaves: the one that it finds.
 unfoldable pub tree_said : World → State → List ℕ → Statement → Said × State
-tree_said w s script tree = elim (built (connection_set w s) tree) [
-  | Some items ↦ (items_said w s script items, s)
-  | None ↦ (Refused not_built, s)
-]
+tree_said w s script tree =
+    if is_built tree
+    then (typed_said w s (typed_statement script tree w.catalog (session_of s)), s)
+    else (Refused not_built, s)
 
 -- What a statement is answered with that reads so, and the state that it leaves. A refusal of its
 -- syntax leaves the state as it was.
@@ -69,8 +52,7 @@ pub record IsAnswer (w : World) (before : State) (script : List ℕ) (statement 
   pub told : said ≡ (read_said w before script read).0
   pub left : after ≡ (read_said w before script read).1
 
--- Statements of a script are answered so, one behind the other, and leave this state. What a script
--- costs will be summed along this.
+-- Statements of a script are answered so, one behind the other, and leave this state.
 abbrev pub Answered : World → State → List ℕ → List Span → List Said → State → Type 0
 Answered w before script [] [] after = after ≡ before
 Answered w before script (statement ∷ statements) (said ∷ more) after =

@@ -1,9 +1,7 @@
--- The refusals of statements, each a number and a text: MySQL 8.0 error reference for 1115, 1253,
--- 1273 and 1300; the numbers from 9000 on are this engine's own.
-use Rattle.std.specs.Prelude.{ℕ, List, ◌++◌, codes, decimal}
+-- The refusals that statements get apart from those of typing, each a number and a text: MySQL 8.0
+-- error reference for 1690; the numbers from 9000 on are this engine's own.
+use Rattle.std.specs.Prelude.{ℕ, ◌++◌, codes, decimal}
 use Rattle.mc_base.specs.declared.refusal.Refusal.{Refusal}
-use Rattle.mc_charset.specs.declared.charset.Charset.{Charset}
-use Rattle.mc_charset.specs.Names.{name_of}
 
 -- No statement goes on at this byte of the script.
 abbrev pub no_reading : ℕ → Refusal
@@ -24,31 +22,6 @@ too_many_tokens = record { number = 9004; text = codes "more than 2048 tokens" }
 abbrev pub not_built : Refusal
 not_built = record { number = 9099; text = codes "not built yet" }
 
--- No set has this name.
-abbrev pub unknown_set : List ℕ → Refusal
-unknown_set name = record {
-  number = 1115;
-  text = codes "Unknown character set: '" ++ name ++ codes "'";
-}
-
--- No collation has this name.
-abbrev pub unknown_collation : List ℕ → Refusal
-unknown_collation name = record {
-  number = 1273;
-  text = codes "Unknown collation: '" ++ name ++ codes "'";
-}
-
--- The collation of this name has another set than the text.
-abbrev pub wrong_collation : List ℕ → Charset → Refusal
-wrong_collation name set = record {
-  number = 1253;
-  text = codes "COLLATION '" ++ name ++ codes "' is not valid for CHARACTER SET '" ++ name_of set
-      ++ codes "'";
-}
-
--- The bytes behind an introducer are malformed in its set.
-abbrev pub invalid_string : Charset → Refusal
-invalid_string set = record {
-  number = 1300;
-  text = codes "Invalid " ++ name_of set ++ codes " character string";
-}
+-- A number that the rows ask for is outside 64 bits.
+abbrev pub out_of_range : Refusal
+out_of_range = record { number = 1690; text = codes "BIGINT value is out of range" }

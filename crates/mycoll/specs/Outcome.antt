@@ -1,5 +1,5 @@
 -- The outcome of the files: what is to be answered, or the first refusal.
-use Rattle.std.specs.Prelude.{ℕ, Bool, true, false, List, [], ◌∷◌, ◌++◌, ◌&&◌, Option, Some, None}
+use Rattle.std.specs.Prelude.{ℕ, Bool, List, ◌++◌, Option, Some, None}
 use Rattle.std.specs.Prelude.{Result, Ok, Err, nat_lt, length, drop, if◌then◌else◌, codes, decimal}
 use Rattle.std.specs.List.{list_all}
 use Rattle.std.specs.Result.{result_map_both}
@@ -12,7 +12,6 @@ use Rattle.mc_catalog.specs.BuiltIn.{plain}
 use Rattle.mc_catalog.specs.Limits.{built_in_count}
 use Rattle.mc_catalog.specs.Outcome.{catalog_outcome}
 use Rattle.mc_catalog.specs.declared.catalog.Catalog.{Catalog}
-use Rattle.mc_catalog.specs.declared.catalog.TableDecl.{TableDecl}
 use Rattle.mc_catalog.specs.declared.fault.CatalogFault.{CatalogFault}
 use Rattle.mc_catalog.specs.declared.fault.CatalogFaultKind.{CatalogFaultKind}
 use Rattle.mc_catalog.specs.declared.fault.CatalogFaultKind.TheVariants.{BadLine, UnknownCharset}
@@ -22,8 +21,10 @@ use Rattle.mc_catalog.specs.declared.fault.CatalogFaultKind.TheVariants.{Unknown
 use Rattle.mc_catalog.specs.declared.fault.CatalogFaultKind.TheVariants.{Repeated, TooMany}
 use Rattle.mc_catalog.specs.declared.fault.CatalogFaultKind.TheVariants.{NoColumn, NoMemory}
 use Rattle.mc_order.specs.Meaning.{Meaning}
-use Rattle.mycoll.specs.Print.{line}
+use Rattle.mc_print.specs.Lines.{line}
+use Rattle.mycoll.specs.Tables.{tables_outcome}
 use Rattle.mycoll.specs.Words.{FileNames}
+use Rattle.mycoll.specs.World.{Rows}
 
 -- A script has to be UTF-8; the refusal tells how long its longest valid prefix is.
 abbrev pub utf8_outcome : List ℕ → List ℕ → Result (List ℕ) FileRefusal
@@ -50,22 +51,15 @@ fault_name TooMany = codes "TooMany"
 fault_name NoColumn = codes "NoColumn"
 fault_name NoMemory = codes "NoMemory"
 
--- No table of rows is declared.
-abbrev pub has_no_table : List TableDecl → Bool
-has_no_table [] = true
-has_no_table (table ∷ tables) = false
-
--- Everything that the catalog declares is built: collations by their files, without rules, and no
--- table of rows.
-abbrev pub is_built : Catalog → Bool
-is_built catalog =
+-- Every collation that the catalog declares is built: by its files, without rules.
+abbrev pub is_built_catalog : Catalog → Bool
+is_built_catalog catalog =
     list_all (λ declared. is_built_collation declared) (drop built_in_count catalog.collations)
-    && has_no_table catalog.tables
 
 -- An accepted catalog, or the refusal of what isn't built yet.
 abbrev pub built_outcome : List ℕ → Catalog → Result Catalog FileRefusal
 built_outcome name catalog =
-    if is_built catalog then Ok catalog else Err (file_refusal name (codes "NotBuilt") 0)
+    if is_built_catalog catalog then Ok catalog else Err (file_refusal name (codes "NotBuilt") 0)
 
 -- The refusal of a catalog's file, by its fault.
 abbrev pub catalog_refusal : List ℕ → CatalogFault → FileRefusal
@@ -84,15 +78,15 @@ named_catalog files None = Ok plain
 named_catalog files (Some name) =
     result_and_then (built_catalog name) (file_outcome files name)
 
--- What is to be answered: a script, by the collations of a catalog and what each of them means.
-pub record Accepted : Type 0 where
+-- A catalog and a script, and what each collation of the catalog means.
+pub record Opening : Type 0 where
   pub catalog : Catalog
   pub script : List ℕ
   pub meanings : List Meaning
 
 -- A script and a catalog, with the book of its collations.
 unfoldable pub with_book : (List ℕ → Option (List ℕ)) → Catalog → List ℕ
-    → Result Accepted FileRefusal
+    → Result Opening FileRefusal
 with_book files catalog script =
     result_and_then
     (λ meanings. Ok (record { catalog = catalog; script = script; meanings = meanings }))
@@ -100,14 +94,44 @@ with_book files catalog script =
 
 -- A catalog, with a script and the book.
 unfoldable pub with_script : (List ℕ → Option (List ℕ)) → List ℕ → Catalog
-    → Result Accepted FileRefusal
+    → Result Opening FileRefusal
 with_script files script catalog =
     result_and_then (with_book files catalog) (named_script files script)
 
--- The files are taken in this order: the catalog, the script, the tables of the collations.
+-- The catalog and the script, then the files of the collations.
+unfoldable pub opening_outcome : (List ℕ → Option (List ℕ)) → FileNames
+    → Result Opening FileRefusal
+opening_outcome files named =
+    result_and_then (with_script files named.script) (named_catalog files named.catalog)
+
+-- What is to be answered: a script, by a catalog, what its collations mean, and the rows of its
+-- tables.
+pub record Accepted : Type 0 where
+  pub catalog : Catalog
+  pub script : List ℕ
+  pub meanings : List Meaning
+  pub rows : List Rows
+
+-- What was opened, with the rows of the tables.
+abbrev pub accepted_with : Opening → List Rows → Accepted
+accepted_with opening rows = record {
+  catalog = opening.catalog;
+  script = opening.script;
+  meanings = opening.meanings;
+  rows = rows;
+}
+
+-- A catalog and a script with the book, and the tables.
+unfoldable pub with_tables : (List ℕ → Option (List ℕ)) → Opening → Result Accepted FileRefusal
+with_tables files opening =
+    result_and_then (λ rows. Ok (accepted_with opening rows))
+    (tables_outcome files opening.catalog)
+
+-- The files are taken in this order: the catalog, the script, the files of the collations, those of
+-- the tables.
 unfoldable pub files_outcome : (List ℕ → Option (List ℕ)) → FileNames → Result Accepted FileRefusal
 files_outcome files named =
-    result_and_then (with_script files named.script) (named_catalog files named.catalog)
+    result_and_then (with_tables files) (opening_outcome files named)
 
 -- The line of a refused file.
 abbrev pub refused_line : FileRefusal → List ℕ

@@ -4,12 +4,14 @@ use Rattle.std.specs.Prelude.{Err, option_map, take, if◌then◌else◌, ⊤}
 use Rattle.mc_base.specs.Faults.{Rose}
 use Rattle.mc_base.specs.Sink.{appended}
 use Rattle.mc_book.specs.Meanings.{meaning_at}
+use Rattle.mc_token.specs.Statements.{statements}
 use Rattle.mycoll.specs.declared.status.Status.{Status}
 use Rattle.mycoll.specs.declared.status.Status.TheVariants.{Done, SomeRefused, Usage, FilesRefused}
 use Rattle.mycoll.specs.declared.status.Status.TheVariants.{ReadFault, WriteFault, NoMemory}
 use Rattle.mycoll.specs.declared.output.Stopped.{Stopped}
 use Rattle.mycoll.specs.declared.output.Stopped.TheVariants.{Fault, NoMemory as OutOfMemory}
 use Rattle.mycoll.specs.Answering.{AllWritten, FirstWritten, PartWritten}
+use Rattle.mycoll.specs.Costs.{Cost, Costs, IsWithin, free}
 use Rattle.mycoll.specs.Outcome.{Accepted, files_outcome, refused_line}
 use Rattle.mycoll.specs.Words.{FileNames, WordsForm, IsOfFiles, words_form, usage_line}
 use Rattle.mycoll.specs.Words.WordsForm.{file_words, no_form}
@@ -26,7 +28,10 @@ accepted_world accepted = world_of accepted.catalog (meaning_at accepted.meaning
 
 -- The state in which its first statement is answered.
 abbrev pub accepted_state : Accepted → State
-accepted_state accepted = record { connection = accepted.catalog.connection }
+accepted_state accepted = record {
+  connection = accepted.catalog.connection;
+  rows = accepted.rows;
+}
 
 -- A refused file gives one line, and an accepted script its answers.
 unfoldable pub files_task : (List ℕ → Option (List ℕ)) → FileNames → Task
@@ -82,6 +87,16 @@ HasWritten (script_task w s script) status before after =
 abbrev pub IsDone : Task → Status → Type 0
 IsDone (one_line text ends) status = status ≡ ends
 IsDone (script_task w s script) status = (status ≡ Done) ⊎ (status ≡ SomeRefused)
+
+-- What a task may cost: one line is free, and a script may cost what its statements may.
+abbrev pub MayCost : Task → Cost → Type 0
+MayCost (one_line text ends) cost = cost ≡ free
+MayCost (script_task w s script) cost = Costs w s script (statements script 0) cost
+
+-- No more was spent than a task may cost, whatever it ended with.
+abbrev pub IsSpentOn : Task → (fetched fetched' compared compared' : ℕ) → Type 0
+IsSpentOn t fetched fetched' compared compared' =
+    (cost : Cost) → MayCost t cost → IsWithin cost fetched fetched' compared compared'
 
 -- Where no device failed in the run, its task was done, or memory ran out.
 abbrev pub IsComplete : Task → Status → (reads reads' writes writes' : ℕ) → Type 0

@@ -1,7 +1,7 @@
 -- The words after the program's name: this engine's own forms.
 use Rattle.std.specs.Prelude.{ℕ, List, [], ◌∷◌, Option, Some, None, if◌then◌else◌, codes, ⊤}
 use Rattle.std.specs.Str.{bytes_eq}
-use Rattle.mycoll.specs.Print.{line}
+use Rattle.mc_print.specs.Lines.{line}
 
 -- The files that words name: a catalog, if one is there, and a script.
 pub record FileNames : Type 0 where

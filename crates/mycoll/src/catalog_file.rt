@@ -5,7 +5,7 @@ ghost use Rattle.mc_catalog.specs.BuiltIn.{plain};
 ghost use Rattle.mc_catalog.specs.Lawful.{IsLawful};
 ghost use Rattle.mycoll.specs.Outcome.{
   fault_name,
-  is_built,
+  is_built_catalog,
   built_outcome,
   catalog_refusal,
   built_catalog,
@@ -47,29 +47,29 @@ fn catalog_refusal(alloc: Global, name: &Text, fault: &CatalogFault) -> FileFaul
     }
 }
 
-/// Whether everything that the catalog declares is built.
-fn is_built(catalog: &Catalog) -> bool
+/// Whether every collation that a catalog declares is built.
+fn is_built_catalog(catalog: &Catalog) -> bool
     requires { IsLawful catalog.now }
-    ensures { result ≡ is_built catalog.now }
+    ensures { result ≡ is_built_catalog catalog.now }
 {
-    declares_built_kinds(catalog) && catalog.tables.is_empty()
+    declares_built_kinds(catalog)
 }
 
-/// The catalog, if everything that it declares is built.
+/// The catalog, if every collation that it declares is built.
 fn check_built(alloc: Global, name: &Text, catalog: Catalog) -> Result<Catalog, FileFault>
     requires { IsLawful catalog }
     ensures told { HasOutcome (λ built. built) result (built_outcome name.now catalog) }
     ensures cause { (before after : ℕ) → FileCause result before after }
     ensures lawful { IfOk result IsLawful }
 {
-    if is_built(&catalog) {
+    if is_built_catalog(&catalog) {
         Ok(catalog)
     } else {
         Err(refuse_file(alloc, name, b"NotBuilt", 0))
     }
 }
 
-/// The catalog that a file's text says, if everything that it declares is built.
+/// The catalog that a file's text says, if every collation that it declares is built.
 fn check_catalog(alloc: Global, name: &Text, text: &[u8]) -> Result<Catalog, FileFault>
     requires { length text.now < 2 ^ 32 }
     ensures told { HasOutcome (λ catalog. catalog) result (built_catalog name.now text.now) }

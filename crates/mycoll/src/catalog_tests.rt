@@ -121,8 +121,8 @@ const LOADED: [Loaded; 31] = [
         german: G2,
         general: GEN,
         failing_reads: &[],
-        status: Status::SomeRefused,
-        written: b"ERROR 9099: not built yet\n",
+        status: Status::Done,
+        written: b"'a' COLLATE utf8mb4_general_ci = _latin1'a'\n1\n",
     },
     Loaded {
         why: "the connection's collation and set",
@@ -246,7 +246,7 @@ const LOADED: [Loaded; 31] = [
         written: b"refused cat.txt NotBuilt 0\n",
     },
     Loaded {
-        why: "a table of rows",
+        why: "the file of a table's rows is missing",
         catalog: b"table t none.txt\ncolumn a bigint\n",
         script: b"",
         swedish: SW,
@@ -254,7 +254,7 @@ const LOADED: [Loaded; 31] = [
         general: GEN,
         failing_reads: &[],
         status: Status::FilesRefused,
-        written: b"refused cat.txt NotBuilt 0\n",
+        written: b"refused none.txt Absent 0\n",
     },
     Loaded {
         why: "the script before the tables of the collations",

@@ -38,7 +38,7 @@ const READ: [Script; 11] = [
     },
     Script {
         why: "not built comes before the refusals of items",
-        script: b"SELECT 'a' COLLATE nope = 'a', 1 + 1",
+        script: b"SELECT 'a' COLLATE nope = 'a', COUNT(*)",
         status: Status::SomeRefused,
         written: b"ERROR 9099: not built yet\n",
     },
@@ -76,7 +76,7 @@ const READ: [Script; 11] = [
         why: "where an alias may stand it is one",
         script: b"SELECT a LIKE b escape",
         status: Status::SomeRefused,
-        written: b"ERROR 9099: not built yet\n",
+        written: b"ERROR 1054: Unknown column 'a'\n",
     },
 ];
 
@@ -93,22 +93,18 @@ fn statements_are_read_by_the_grammar(rt: HostRuntime) {
 }
 
 /// Statements that are read and not answered yet.
-const NOT_BUILT: [&str; 15] = [
+const NOT_BUILT: [&str; 11] = [
     "EXPLAIN SELECT 1",
     "SELECT DISTINCT 1",
-    "SELECT 1 FROM t",
-    "SELECT 1 ORDER BY 1",
-    "SELECT 1 LIMIT 1",
-    "SELECT a",
-    "SELECT -1",
-    "SELECT 'a'",
-    "SELECT 1 = 1",
-    "SELECT 'a' < 'b'",
-    "SELECT HEX(1)",
-    "SELECT CONCAT('a')",
-    "SELECT 'a' COLLATE a COLLATE b = 'a'",
-    "SELECT N'a' = 'a'",
-    "SELECT X'41' = X'41'",
+    "SELECT COUNT(*)",
+    "SELECT 1 + COUNT(DISTINCT 1)",
+    "SELECT MAX('a') FROM nope",
+    "SELECT CHARSET(MIN('a'))",
+    "SELECT 1 ORDER BY LEFT('a', SUM(1))",
+    "SELECT 1 FROM t WHERE 2 IN (1, COUNT(*))",
+    "SELECT TRIM(MAX('a') FROM 'b')",
+    "SELECT nope FROM t GROUP BY a",
+    "SELECT 1 FROM t WHERE 'a' COLLATE nope = 'a' GROUP BY a",
 ];
 
 fn is_not_built(alloc: Global, script: &str) -> Result<bool, NoMemory> {
@@ -140,11 +136,11 @@ struct Long {
 const LONG: [Long; 6] = [
     Long {
         why: "2,048 tokens",
-        front: b"SELECT 1",
+        front: b"SELECT 'a'",
         repeated: b"+1",
         times: 1023,
         behind: b"",
-        written: b"ERROR 9099: not built yet\n",
+        written: b"ERROR 9002: wrong argument for '+'\n",
     },
     Long {
         why: "2,049 tokens",

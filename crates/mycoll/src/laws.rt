@@ -4,6 +4,8 @@ ghost use Rattle.mc_book.specs.BookOutcome.{IsBuilt};
 ghost use Rattle.mc_catalog.specs.Limits.{built_in_count};
 ghost use Rattle.mc_catalog.specs.declared.catalog.Catalog.{Catalog};
 ghost use Rattle.mycoll.specs.Answers.{AreAll, AreFirst, IsAnswer};
+ghost use Rattle.mc_token.specs.Statements.{statements};
+ghost use Rattle.mycoll.specs.Costs.{Cost, Costs};
 ghost use Rattle.mycoll.specs.Outcome.{named_catalog};
 ghost use Rattle.mycoll.specs.World.{World, State};
 ghost use Rattle.mycoll.specs.declared.said.Said.{Said};
@@ -12,7 +14,8 @@ use mc_parse::outcomes_are_unique;
 
 /// The law of answers: a statement has at most one answer, and leaves at most one state. So a
 /// script has at most one list of answers, and the answers to some first statements are the first
-/// ones of it. That there is an answer `run` alone shows, by giving it.
+/// ones of it. That there is an answer `run` alone shows, by giving it. A script that is answered
+/// has one cost.
 pub fn answers_law()
     ensures once { (w : World) (before : State) (script : List ℕ) (statement : Span)
         (said other : Said) (after behind : State)
@@ -25,6 +28,12 @@ pub fn answers_law()
     ensures first { (w : World) (s : State) (script : List ℕ) (said all : List Said)
         → AreFirst w s script said → AreAll w s script all
         → (more : List Said) × (all ≡ said ++ more) }
+    ensures cost { (w : World) (s : State) (script : List ℕ) (said : List Said)
+        → AreAll w s script said
+        → (cost : Cost) × Costs w s script (statements script 0) cost }
+    ensures one_cost { (w : World) (s : State) (script : List ℕ) (one other : Cost)
+        → Costs w s script (statements script 0) one
+        → Costs w s script (statements script 0) other → one ≡ other }
 {
     outcomes_are_unique();
 }

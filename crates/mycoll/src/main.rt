@@ -5,11 +5,10 @@
 //! by (the catalog, and what its collations mean), and the states before and behind it; `laws` says
 //! that a script has one list of them.
 //!
-//! Its definitions stand in `specs/`: read `Words`, `Outcome`, `Reading`, `Strings`, `Operands`,
-//! `Built`, `Values`, `World`, `Forms`, `Print`, `Answers`, `Answering` and `Run` in that order. In
-//! `src/` the files go through `words`, `catalog_file`, `script` and `opening`, and a statement
-//! through `reading`, `built`, `strings`, `operands`, `values`, `forms`, `items`, `answering`,
-//! `print` and `output`; `run` joins them.
+//! Its definitions stand in `specs/`: read `Words`, `Tables`, `Outcome`, `Reading`, `Built`,
+//! `World`, `Answers`, `Costs`, `SaidTexts`, `Answering` and `Run` in that order. In `src/` the files go
+//! through `words`, `catalog_file`, `script`, `table_files` and `opening`, and a statement through
+//! `reading`, `built`, `answering` and `output`; `run` joins them.
 #![tactic(auto)]
 
 mod answering;
@@ -17,33 +16,35 @@ mod built;
 mod catalog_file;
 #[cfg(test)]
 mod catalog_tests;
-mod forms;
+#[cfg(test)]
+mod expression_tests;
 #[cfg(test)]
 mod grammar_tests;
-mod items;
 mod laws;
 mod messages;
 mod opening;
-mod operand_value;
-mod operands;
 mod output;
-mod print;
 mod reading;
+mod refused;
 mod run;
 mod said;
+#[cfg(test)]
+mod scan_tests;
 mod script;
 #[cfg(test)]
 mod script_tests;
-mod session;
 mod status;
-mod strings;
+mod table_files;
 #[cfg(test)]
 mod tests;
 mod unanswered;
 #[cfg(test)]
 mod unicode_tests;
-mod values;
 mod words;
+#[cfg(test)]
+mod worked_files;
+#[cfg(test)]
+mod worked_tests;
 
 use crate::run::run;
 use crate::status::Status;

@@ -1,12 +1,12 @@
 ghost use Rattle.std.specs.Prelude.{◌≡◌, ◌≤◌, IfOk};
 ghost use Rattle.mycoll.specs.Answers.{is_refusal};
-ghost use Rattle.mycoll.specs.Print.{said_text, HasTexts};
+ghost use Rattle.mycoll.specs.SaidTexts.{said_text, HasTexts};
 ghost use Rattle.mycoll.specs.Answering.{Written, StopCause};
 ghost use Rattle.mycoll.specs.declared.output.Stopped.TheVariants.{NoMemory as OutOfMemory};
 
-use crate::print::{answer_text, refusal_text};
 use crate::said::Said;
 use mc_base::{NoMemory, PutAnswer, Sink};
+use mc_print::{answer_text, refusal_text};
 use std::alloc::Global;
 
 /// Why writing stopped.

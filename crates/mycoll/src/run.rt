@@ -1,6 +1,9 @@
+ghost use Rattle.mc_exec.specs.Stored.{AreTablesOf};
+ghost use Rattle.mc_token.specs.Statements.{statements};
 ghost use Rattle.std.specs.Option.{option_copied};
 ghost use Rattle.std.specs.Prelude.{◌≡◌, ◌≤◌, IfSome};
 ghost use Rattle.mycoll.specs.Answering.{AnswersWritten, Written, StopCause};
+ghost use Rattle.mycoll.specs.Costs.{Cost, Costs, IsWithin};
 ghost use Rattle.mycoll.specs.Opened.{IsSound, accepted_of};
 ghost use Rattle.mycoll.specs.Outcome.{refused_line};
 ghost use Rattle.mycoll.specs.Run.{
@@ -12,6 +15,7 @@ ghost use Rattle.mycoll.specs.Run.{
   line_status,
   HasWritten,
   IsComplete,
+  IsSpentOn,
   ReadCause,
   WriteCause,
   FitsWords,
@@ -22,11 +26,13 @@ ghost use Rattle.mycoll.specs.Words.WordsForm.{file_words};
 use crate::answering::answer_script;
 use crate::opening::{Opened, open_files};
 use crate::output::{Stopped, write_bytes};
-use crate::print::refused_text;
-use crate::session::Session;
+use crate::refused::refused_text;
 use crate::status::Status;
 use crate::words::{FileNames, named_files};
-use mc_base::{FileFault, FileRefusal, Files, NoMemory, Sink, Steps, Text};
+use mc_base::{FileFault, FileRefusal, Files, List, NoMemory, Sink, Steps, Text};
+use mc_exec::build_tables;
+use mc_rows::Table;
+use mc_typing::Session;
 use std::alloc::Global;
 
 const USAGE: &[u8] = b"usage: mycoll [CATALOG] SCRIPT | --make N\n";
@@ -67,35 +73,60 @@ fn write_refusal<S: Sink>(alloc: Global, refusal: &FileRefusal, out: &mut S) -> 
     }
 }
 
-/// Answers the script that was opened, by the collations that were opened with it.
-fn answer_opened<S: Sink>(alloc: Global, opened: &Opened, out: &mut S) -> Result<bool, Stopped>
-    requires { IsSound opened.now }
+/// Answers the script that was opened, by the collations and over the rows opened with it.
+fn answer_opened<S: Sink, W, L>(
+    alloc: Global,
+    opened: Opened,
+    rows: List<Table<L>>,
+    out: &mut S,
+    work: &mut Steps<W>,
+    steps: &mut Steps<L>,
+) -> Result<bool, Stopped>
+    requires sound { IsSound opened }
+    requires rows { AreTablesOf opened.catalog rows }
     ensures later { S.faults out.old ≤ S.faults out.new }
-    ensures told { let accepted = accepted_of opened.now in
+    ensures told { let accepted = accepted_of (opened, rows) in
         AnswersWritten (accepted_world accepted) (accepted_state accepted) accepted.script result
         (S.written out.old) (S.written out.new) }
+    ensures within { let accepted = accepted_of (opened, rows) in
+        (cost : Cost) → Costs (accepted_world accepted) (accepted_state accepted) accepted.script
+        (statements accepted.script 0) cost
+        → IsWithin cost steps.old steps.new work.old work.new }
+    ensures fetched { steps.old ≤ steps.new }
+    ensures compared { work.old ≤ work.new }
     ensures cause { StopCause result (S.faults out.old) (S.faults out.new) }
 {
-    let mut session = Session {
-        connection: opened.catalog.connection,
-    };
-    let script = opened.script.as_slice();
-    answer_script(
-        alloc,
-        &opened.catalog,
-        &opened.book,
-        &mut session,
+    let Opened {
+        catalog,
         script,
-        out,
-    )
+        book,
+    } = opened;
+    let mut session = Session {
+        connection: catalog.connection,
+    };
+    match build_tables(alloc, catalog, rows, &book, steps) {
+        Ok(tables) => answer_script(
+            alloc,
+            &tables,
+            &book,
+            &mut session,
+            script.as_slice(),
+            out,
+            work,
+            steps,
+        ),
+        Err(NoMemory) => Err(Stopped::NoMemory),
+    }
 }
 
 /// Answers the script of these files.
-fn run_files<F: Files, S: Sink>(
+fn run_files<F: Files, S: Sink, W, L>(
     alloc: Global,
     named: FileNames<'_>,
     files: &mut F,
     out: &mut S,
+    work: &mut Steps<W>,
+    steps: &mut Steps<L>,
 ) -> Status
     ensures kept { F.contents files.new ≡ F.contents files.old }
     ensures told { IfSome (F.contents files.old) (λ told. HasWritten
@@ -104,6 +135,14 @@ fn run_files<F: Files, S: Sink>(
           script = named.entry.script.now;
         }))
         result (S.written out.old) (S.written out.new)) }
+    ensures spent { IfSome (F.contents files.old) (λ told. IsSpentOn
+        (files_task told (record {
+          catalog = option_copied named.entry.catalog;
+          script = named.entry.script.now;
+        }))
+        steps.old steps.new work.old work.new) }
+    ensures fetched { steps.old ≤ steps.new }
+    ensures compared { work.old ≤ work.new }
     ensures read { ReadCause result (F.faults files.old) (F.faults files.new)
         (S.written out.old) (S.written out.new) }
     ensures write { WriteCause result (S.faults out.old) (S.faults out.new) }
@@ -114,7 +153,9 @@ fn run_files<F: Files, S: Sink>(
         })) result }
 {
     match open_files(alloc, files, named) {
-        Ok(opened) => answered_status(answer_opened(alloc, &opened, out)),
+        Ok((opened, rows)) => {
+            answered_status(answer_opened(alloc, opened, rows, out, work, steps))
+        }
         Err(FileFault::Refused(refusal)) => {
             line_status(Status::FilesRefused, write_refusal(alloc, &refusal, out))
         }
@@ -125,32 +166,43 @@ fn run_files<F: Files, S: Sink>(
 
 /// Answers the words after the program's name. Words of no form are answered with the usage line.
 #[tactic(auto, unfolding(crate::specs::Run::task))]
-fn run_words<F: Files, S: Sink>(alloc: Global, words: &[Text], files: &mut F, out: &mut S) -> Status
+fn run_words<F: Files, S: Sink, W, L>(
+    alloc: Global,
+    words: &[Text],
+    files: &mut F,
+    out: &mut S,
+    work: &mut Steps<W>,
+    steps: &mut Steps<L>,
+) -> Status
     ensures kept { F.contents files.new ≡ F.contents files.old }
     ensures told { IfSome (task (F.contents files.old) words.now) (λ asked.
         HasWritten asked result (S.written out.old) (S.written out.new)) }
+    ensures spent { IfSome (task (F.contents files.old) words.now) (λ asked.
+        IsSpentOn asked steps.old steps.new work.old work.new) }
+    ensures fetched { steps.old ≤ steps.new }
+    ensures compared { work.old ≤ work.new }
     ensures read { ReadCause result (F.faults files.old) (F.faults files.new)
         (S.written out.old) (S.written out.new) }
     ensures write { WriteCause result (S.faults out.old) (S.faults out.new) }
     ensures form { FitsWords (words_form words.now) result }
 {
     match named_files(words) {
-        Some(named) => run_files(alloc, named, files, out),
+        Some(named) => run_files(alloc, named, files, out, work, steps),
         None => line_status(Status::Usage, write_bytes(out, USAGE)),
     }
 }
 
 /// Answers the words after the program's name: reads the files that they name through `files`, and
-/// writes the script's answers to `out`. It takes no step on `work` or `steps`, and ends with the
-/// status of what it has written.
+/// writes the script's answers to `out`. It ends with the status of what it has written. Each row
+/// that is fetched ticks `steps`, and each comparison of characters for LIKE `work`.
 ///
 /// The words are a script, or a catalog and a script. The catalog is opened first, then the script,
-/// then the table of each declared collation in the order of the catalog; each is at most
-/// 16,777,216 bytes and is parsed before the next one is opened, and the first that is refused ends
-/// the run with its line. The script is UTF-8. Its statements are answered in order, each by one
-/// call of the sink; a refused one is answered with its `ERROR` line, and the run goes on. Without
-/// a catalog the collations are the built-in ones, and the connection's is `utf8mb4_bin` (MySQL 8.0
-/// manual, 10.8.5 and 10.10.1).
+/// then the files of each declared collation and those of the tables, in the order of the catalog;
+/// each is at most 16,777,216 bytes and is parsed before the next one is opened, and the first that
+/// is refused ends the run with its line. The script is UTF-8. Its statements are answered in
+/// order, each by one call of the sink; a refused one is answered with its `ERROR` line, and the
+/// run goes on. Without a catalog there are no tables, the collations are the built-in ones, and the
+/// connection's is `utf8mb4_bin` (MySQL 8.0 manual, 10.8.5, 10.10.1 and 13.2.10).
 pub fn run<F: Files, S: Sink, W, L>(
     alloc: Global,
     words: &[Text],
@@ -172,8 +224,12 @@ pub fn run<F: Files, S: Sink, W, L>(
     ensures write { WriteCause result (S.faults out.old) (S.faults out.new) }
     ensures form { FitsWords (words_form words.now) result }
     ensures kept { F.contents files.new ≡ F.contents files.old }
-    ensures steps { steps.new ≡ steps.old }
-    ensures work { work.new ≡ work.old }
+    // The rows fetched are at most those that the statements may cost, on every exit; without LIKE
+    // no characters are compared for it.
+    ensures spent { IfSome (task (F.contents files.old) words.now) (λ asked.
+        IsSpentOn asked steps.old steps.new work.old work.new) }
+    ensures fetched { steps.old ≤ steps.new }
+    ensures compared { work.old ≤ work.new }
 {
-    run_words(alloc, words, files, out)
+    run_words(alloc, words, files, out, work, steps)
 }

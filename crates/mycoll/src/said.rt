@@ -1,20 +1,5 @@
-use mc_base::{List, Refusal, Text};
-use mc_charset::Charset;
-
-/// A value of a cell: NULL, a whole number, or a string of a set.
-#[derive(Drop)]
-pub enum Value {
-    Null,
-    Int(i64),
-    Str { charset: Charset, text: Text },
-}
-
-/// A table: the headers of its columns, and rows of a value a column.
-#[derive(Drop)]
-pub struct Answer {
-    pub header: List<Text>,
-    pub rows: List<List<Value>>,
-}
+use mc_base::Refusal;
+use mc_values::Answer;
 
 /// What a statement is answered with.
 #[derive(Drop)]

@@ -163,16 +163,16 @@ const SCRIPTS: [Script; 27] = [
         written: b"ERROR 1253: COLLATION 'latin1_bin' is not valid for CHARACTER SET 'utf8mb4'\n",
     },
     Script {
-        why: "strings of two sets, before any other refusal",
+        why: "no collation of this name, whatever the sets",
         script: b"SELECT 'a' COLLATE nope = _latin1'a';",
         status: Status::SomeRefused,
-        written: b"ERROR 9099: not built yet\n",
+        written: b"ERROR 1273: Unknown collation: 'nope'\n",
     },
     Script {
         why: "two collations, and a hexadecimal literal without one",
         script: b"SELECT 'a' COLLATE utf8mb4_bin = 'a' COLLATE utf8mb4_bin;SELECT X'41' = 'A';",
-        status: Status::SomeRefused,
-        written: b"ERROR 9099: not built yet\nERROR 9099: not built yet\n",
+        status: Status::Done,
+        written: b"'a' COLLATE utf8mb4_bin = 'a' COLLATE utf8mb4_bin\n1\nX'41' = 'A'\n1\n",
     },
 ];
 

@@ -13,6 +13,7 @@ pub enum Status {
     ReadFault,
     /// Writing failed; some first bytes of the answers, or of the one line, were written.
     WriteFault,
-    /// Memory ran out; the whole answers of some first statements were written, or nothing of a line.
+    /// Memory ran out; the whole answers of some first statements were written, or nothing of a
+    /// line.
     NoMemory,
 }

@@ -4,7 +4,7 @@ ghost use Rattle.std.specs.Prelude.{◌≡◌};
 
 use mc_base::{NoMemory, Refusal};
 
-/// Why a statement has no row.
+/// Why a statement has no tree.
 #[derive(Drop)]
 pub enum Unanswered {
     /// The statement is refused.

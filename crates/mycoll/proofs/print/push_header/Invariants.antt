@@ -1,9 +1,0 @@
--- The headers so far stand behind the first one.
-use Rattle.std.proofs.Common.{◌≡◌, ◌∷◌, ◌++◌, take}
-use Rattle.std.specs.List.{flat_map}
-use Rattle.mycoll.specs.Print.{as_written}
-use Rattle.mycoll.proofs.print.push_header.Given as goal
-
-abbrev pub invariant-loop-name : goal.invariant-loop-name
-invariant-loop-name l =
-    l.out ≡ l.initial.out ++ flat_map (λ next. 0x09 ∷ as_written next) (take l.name-index l.others)
