@@ -7,3 +7,4 @@ pub mod Told
 pub mod ReadSteps
 pub mod RunSteps
 pub mod StandardFacts
+mod FileNames
