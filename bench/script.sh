@@ -1,13 +1,17 @@
 #!/bin/bash
 # How long the proved program takes over a long script: 200,000 comparisons (about 6 MB) and
 # 400,000, beside `cat` and `sort` over the same bytes, the quickest of seven runs each. Aim: twice
-# the statements take at most 2.2 times as long. Then half as many statements of 40 tokens, which
-# are read and not answered, and twice as many of them. Aims: at most 3 times as long as `sort`
-# over the same bytes, and 2.2 times as long for twice the statements.
+# the statements take at most 2.2 times as long. Then a quarter as many statements of 40 tokens, and half as
+# many: over a
+# table that no catalog declares, which are read and refused by their first lookup; and without a
+# table, which are typed, evaluated and answered. Aims: at most 3 times as long as `sort` over the
+# same bytes, and 2.2 times as long for twice the statements. MYCOLL names the program where it isn't
+# to be ./mycoll.
 #
 #     bench/script.sh [STATEMENTS]
 set -e
 top=$(cd "$(dirname "$0")/.." && pwd)
+mycoll=$(realpath "${MYCOLL:-$top/mycoll}")
 count=${1:-200000}
 folder=$(mktemp -d)
 trap 'rm -rf "$folder"' EXIT
@@ -20,12 +24,22 @@ make_script() { # how many statements, a file
     }' >"$2"
 }
 
-make_long_statements() { # how many statements of 40 tokens, a file
+make_refused_statements() { # how many statements of 40 tokens, a file
     awk -v n="$1" 'BEGIN {
         for (i = 0; i < n; i++) {
             printf "SELECT a + 1 * (b - 2), f(c, \047x%06d\047), NOT d BETWEEN 1 AND 2,", i
             printf " e LIKE \047y%06d\047 ESCAPE \047!\047 FROM t WHERE g = \047z\047", i
             print " ORDER BY h DESC;"
+        }
+    }' >"$2"
+}
+
+make_answered_statements() { # how many statements of 40 tokens, a file
+    awk -v n="$1" 'BEGIN {
+        for (i = 0; i < n; i++) {
+            printf "SELECT 1 + 1 * (3 - 2) a, CONCAT(\047c\047, \047x%06d\047) b,", i
+            printf " NOT 4 BETWEEN 1 AND 2, \047e\047 LIKE \047y%06d\047 ESCAPE \047!\047 d,", i
+            print " \047g\047 = \047z\047, 7 e;"
         }
     }' >"$2"
 }
@@ -47,28 +61,32 @@ ratio() {
 
 make_script "$count" "$folder/one.sql"
 make_script $((2 * count)) "$folder/two.sql"
-"$top/mycoll" "$folder/one.sql" >"$folder/out"
+"$mycoll" "$folder/one.sql" >"$folder/out"
 lines=$(wc -l <"$folder/out")
 [ "$lines" = $((2 * count)) ] || { echo "$lines lines were written, wanted $((2 * count))"; exit 1; }
 
 bytes=$(wc -c <"$folder/one.sql")
-one=$(seconds "$top/mycoll" "$folder/one.sql")
-two=$(seconds "$top/mycoll" "$folder/two.sql")
+one=$(seconds "$mycoll" "$folder/one.sql")
+two=$(seconds "$mycoll" "$folder/two.sql")
 plain=$(seconds cat "$folder/one.sql")
 sorted=$(seconds sort "$folder/one.sql")
 echo "$count comparisons, $bytes bytes: mycoll $one s, cat $plain s, sort $sorted s;" \
     "mycoll / sort $(ratio "$one" "$sorted")"
 echo "$((2 * count)) comparisons: mycoll $two s, $(ratio "$two" "$one") times as long"
 
-make_long_statements $((count / 2)) "$folder/one.sql"
-make_long_statements "$count" "$folder/two.sql"
-"$top/mycoll" "$folder/one.sql" >"$folder/out" || [ $? = 1 ]
-[ "$(sort -u "$folder/out")" = "ERROR 9099: not built yet" ] ||
-    { head -n 3 "$folder/out"; exit 1; }
-bytes=$(wc -c <"$folder/one.sql")
-one=$(seconds "$top/mycoll" "$folder/one.sql")
-two=$(seconds "$top/mycoll" "$folder/two.sql")
-sorted=$(seconds sort "$folder/one.sql")
-echo "$((count / 2)) statements of 40 tokens, $bytes bytes: mycoll $one s, sort $sorted s;" \
-    "mycoll / sort $(ratio "$one" "$sorted")"
-echo "$count statements: mycoll $two s, $(ratio "$two" "$one") times as long"
+long_statements() { # what they are, how they are made, a pattern of each line that is written
+    "$2" $((count / 4)) "$folder/one.sql"
+    "$2" $((count / 2)) "$folder/two.sql"
+    "$mycoll" "$folder/one.sql" >"$folder/out" || [ $? = 1 ]
+    ! grep -vEm 3 "$3" "$folder/out" || exit 1
+    bytes=$(wc -c <"$folder/one.sql")
+    one=$(seconds "$mycoll" "$folder/one.sql")
+    two=$(seconds "$mycoll" "$folder/two.sql")
+    sorted=$(seconds sort "$folder/one.sql")
+    echo "$((count / 4)) $1 of 40 tokens, $bytes bytes: mycoll $one s, sort $sorted s;" \
+        "mycoll / sort $(ratio "$one" "$sorted")"
+    echo "$((count / 2)) $1: mycoll $two s, $(ratio "$two" "$one") times as long"
+}
+
+long_statements "refused statements" make_refused_statements '^ERROR 1146: '
+long_statements "answered statements" make_answered_statements $'^(a\tb\t|2\tcx)'
