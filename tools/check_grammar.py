@@ -17,6 +17,8 @@ from statements.making import a_list, spelled
 TOP = Path(__file__).resolve().parent.parent
 # How many statements one script has.
 SCRIPT = 200
+# A statement behind each of them, by which the answers are told apart: one may have no row.
+BETWEEN, HEADER = "SELECT 1 AS end_of_answer", "end_of_answer"
 
 EXAMPLES = """examples:
   tools/check_grammar.py                    1,000 random lists of tokens
@@ -82,7 +84,7 @@ def differences(statements: Sequence[Statement], program: str) -> Iterator[str]:
     script, starts = "", []
     for statement in statements:
         starts.append(len(script))
-        script += f"{statement.text};\n"
+        script += f"{statement.text};\n{BETWEEN};\n"
     answers = answers_of(script, program)
     if len(answers) != len(statements):
         yield f"{len(answers)} answers to {len(statements)} statements of {script!r}"
@@ -110,18 +112,21 @@ def said_of(answer: str) -> str:
 
 
 def answers_of(script: str, program: str) -> list[str]:
-    """The answers of the program to the statements of a script: a line for a refusal, the line of
-    the headers for a table, whose one row is left out."""
+    """The answers of the program to the statements of a script but those between: the line of a
+    refusal, or of the headers; rows are left out."""
     with tempfile.NamedTemporaryFile("w", suffix=".sql") as file:
         file.write(script)
         file.flush()
         run = subprocess.run([program, file.name], stdout=subprocess.PIPE, check=False)
-    lines = run.stdout.decode().split("\n")[:-1]
-    answers = []
-    while lines:
-        answers.append(lines.pop(0))
-        if not answers[-1].startswith("ERROR ") and lines:
-            lines.pop(0)
+    answers, first = [], None
+    lines = iter(run.stdout.decode().split("\n")[:-1])
+    for line in lines:
+        if line == HEADER:
+            answers.append(first or "")
+            first = None
+            next(lines, None)
+        elif first is None:
+            first = line
     return answers
 
 

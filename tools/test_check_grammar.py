@@ -117,7 +117,7 @@ class ProgramTest(unittest.TestCase):
     def test_a_program_that_reads_all(self) -> None:
         """A refusal is missed."""
         self.assertFalse(
-            self.passes_with("print('h\\n1\\n' * open(sys.argv[1]).read().count(';\\n'), end='')")
+            self.passes_with("print('h\\n1\\nend_of_answer\\n1\\n' * 20, end='')")
         )
 
     def test_the_grammar_itself(self) -> None:
@@ -127,8 +127,9 @@ class ProgramTest(unittest.TestCase):
         start, answers = 0, []
         for statement in statements:
             wanted = check_grammar.wanted_of(verdict_of(statement.tokens), statement, start)
-            answers.append("h\n1" if wanted == "read" else wanted)
-            start += len(statement.text) + 2
+            answers.append(dice.choice(["h\n1", "h"]) if wanted == "read" else wanted)
+            answers.append("end_of_answer\n1")
+            start += len(statement.text) + len(";\nSELECT 1 AS end_of_answer;\n")
         answer = "\n".join(answers)
         self.assertTrue(self.passes_with(f"print({answer!r})"))
 
