@@ -10,6 +10,7 @@ use Rattle.mc_ast.specs.declared.expr.Expr.{Expr}
 use Rattle.mc_ast.specs.declared.expr.Form.{out-Form}
 use Rattle.mc_ast.specs.declared.expr.Form.TheVariants as form
 use Rattle.mc_catalog.specs.declared.catalog.Catalog.{Catalog}
+use Rattle.mc_typing.specs.declared.place.Place.TheVariants.{Row}
 use Rattle.mc_typing.specs.declared.scope.Scope.{Scope}
 use Rattle.mc_typing.specs.declared.typed.Node.{Node, Node-F, map-Node, out-Node, para-Node}
 use Rattle.mc_typing.specs.declared.typed.Node.{para-roll-Node, roll-Node, roll-out-Node}
@@ -18,18 +19,20 @@ use Rattle.mc_typing.specs.declared.typed.Ty.TheVariants.{Int}
 use Rattle.mc_typing.specs.declared.typed.TypedExpr.{TypedExpr, TypedExpr-F, out-TypedExpr}
 use Rattle.mc_typing.specs.declared.typed.TypedExpr.{para-roll-TypedExpr, roll-TypedExpr}
 use Rattle.mc_typing.specs.declared.typed.TypedExpr.{roll-out-TypedExpr}
-use Rattle.mc_typing.specs.Exprs.{Typing, before, operands, operands_from, plain, typing}
-use Rattle.mc_typing.specs.Exprs.{typing_node}
+use Rattle.mc_typing.specs.Exprs.{Typing, before, in_row, operands, operands_from, plain}
 use Rattle.mc_typing.specs.Gathered.{alone, gathered, gathered_all, judged}
 use Rattle.mc_typing.specs.Messages.{wrong_argument}
 use Rattle.mc_typing.specs.Operands.{is_text}
 use Rattle.mc_typing.specs.Operators.{number_expr, of_numbers, some_text}
 use Rattle.mc_typing.specs.Statements.{and_members, condition, conjuncts, own_members, where_of}
+use Rattle.mc_typing.specs.Walk.{form_typing}
 use Rattle.mc_typing.specs.Wanted.{IsGathered, IsWanted}
 use Rattle.mc_typing.specs.declared.fault.TypeFault.{TypeFault}
 use Rattle.mc_typing.specs.declared.fault.TypeFault.TheVariants.{Refused, NoMemory}
-use Rattle.mc_typing.proofs.Alone.{IsAlone, is_and, is_and_form, tree_alone}
-use Rattle.mc_typing.proofs.Layers.{form_is, over, typing_is}
+use Rattle.mc_typing.proofs.Alone.{IsAlone, tree_alone}
+use Rattle.mc_typing.proofs.Built.{is_and, is_and_form}
+use Rattle.mc_typing.proofs.RowNumbers.{row_typings}
+use Rattle.mc_typing.proofs.Trees.{typing_is}
 
 -- The conjuncts of a typed expression
 
@@ -92,8 +95,8 @@ alone_is xs (Err r) h = refl
 
 pub gathered_alone : (c : Catalog) (s : Scope) (e : Expr) (xs : List TypedExpr)
     → is_and_form (out-Form e.form) ≡ false
-    → gathered xs (typing c s e) ≡ alone xs (typing c s e)
-gathered_alone c s e xs h = alone_is xs (typing c s e) (tree_alone c s e h)
+    → gathered xs (in_row c s e) ≡ alone xs (in_row c s e)
+gathered_alone c s e xs h = alone_is xs (in_row c s e) (tree_alone c s e h)
 
 -- The members of an AND
 
@@ -151,15 +154,23 @@ and_judged : (xs : List TypedExpr) (others : Result (List TypedExpr) Refusal)
 and_judged xs (Ok ys) = and_gathers xs ys (some_text ys)
 and_judged xs (Err r) = refl
 
+and_is : (c : Catalog) (s : Scope) (e : Expr) (es : List Expr) → e.form ≡ form.And es
+    → in_row c s e ≡ result_and_then (λ ys. of_numbers (codes "and") (node.And ys) ys)
+    (operands c s plain (map (in_row c s) es))
+and_is c s e es is =
+    typing_is c s [] e Row 0
+    ∙ (ap (form_typing c s [] Row 0) (ap out-Form is ∙ form.outs-And es)
+    ∙ ap (λ ts. result_and_then (λ ys. of_numbers (codes "and") (node.And ys) ys)
+    (operands c s plain ts)) (row_typings c s 0 es))
+
 pub gathered_and : (c : Catalog) (s : Scope) (e : Expr) (es : List Expr) (xs : List TypedExpr)
     → e.form ≡ form.And es
-    → gathered xs (typing c s e) ≡ judged (codes "and") (gathered_all xs false (map
-    (typing c s) es))
+    → gathered xs (in_row c s e) ≡ judged (codes "and") (gathered_all xs false
+    (map (in_row c s) es))
 gathered_and c s e es xs is =
-    ap (gathered xs) (typing_is c s e ∙ (form_is c s e.form
-    ∙ ap (λ z. typing_node c s (over c s z)) (ap out-Form is ∙ form.outs-And es)))
-    ∙ (and_judged xs (operands c s plain (map (typing c s) es))
-    ∙ ap (judged (codes "and")) (sym (all_gathered c s 0 xs false (map (typing c s) es))))
+    ap (gathered xs) (and_is c s e es is)
+    ∙ (and_judged xs (operands c s plain (map (in_row c s) es))
+    ∙ ap (judged (codes "and")) (sym (all_gathered c s 0 xs false (map (in_row c s) es))))
 
 -- WHERE
 
@@ -200,8 +211,8 @@ whole_answer (Err fault) left = Err fault
 -- What is answered where WHERE is judged.
 pub where_answers : (c : Catalog) (s : Scope) (e : Expr) (result : Result Bool TypeFault)
     (left : List TypedExpr)
-    → IsGathered result left (judged (codes "where") (gathered [] (typing c s e)))
+    → IsGathered result left (judged (codes "where") (gathered [] (in_row c s e)))
     → IsWanted (whole_answer result left) (where_of c s (Some e))
-where_answers c s e (Ok text) left h = where_judged (typing c s e) ∙ kept_ok _ left text h
+where_answers c s e (Ok text) left h = where_judged (in_row c s e) ∙ kept_ok _ left text h
 where_answers c s e (Err fault) left h =
-    subst (IsWanted (Err fault)) (sym (where_judged (typing c s e))) (kept_fault fault left _ h)
+    subst (IsWanted (Err fault)) (sym (where_judged (in_row c s e))) (kept_fault fault left _ h)

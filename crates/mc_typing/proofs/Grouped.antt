@@ -1,30 +1,31 @@
 -- An aggregate stands in a tree where its form is one, or where one stands in an operand.
-use Rattle.std.proofs.Common.{◌≡◌, Bool, true, false, ◌||◌, List, [], ◌∷◌, Option, Some, None, map, refl, sym, ap, ◌∙◌}
+use Rattle.std.proofs.Common.{◌≡◌, Bool, true, false, ◌||◌, List, [], ◌∷◌, Some, None, map, refl}
+use Rattle.std.proofs.Common.{sym, ap, ◌∙◌}
 use Rattle.std.specs.List.{list_any}
-use Rattle.std.specs.Prelude.{option_map}
 use Rattle.mc_ast.specs.declared.expr.Expr.{Expr, fold_out-Expr}
 use Rattle.mc_ast.specs.declared.expr.Form.{Form, Form-F, fold-Form, fold_out-Form, map-Form}
 use Rattle.mc_ast.specs.declared.expr.Form.{out-Form}
-use Rattle.mc_typing.specs.Exprs.{option_before, parts}
-use Rattle.mc_typing.specs.Statements.{aggregates, either, has_aggregate}
+use Rattle.mc_typing.specs.Aggregates.{is_aggregate_form}
+use Rattle.mc_typing.specs.Forms.{parts}
+use Rattle.mc_typing.specs.Statements.{either, has_aggregate}
 
 -- An aggregate stands in a form.
 abbrev form_has : Form → Bool
-form_has form = fold-Form Bool Bool (λ x. either (aggregates x) (parts x)) (λ e. e.form) form
+form_has form = fold-Form Bool Bool (λ x. either (is_aggregate_form x) (parts x)) (λ e. e.form) form
 
 expr_is : (e : Expr) → has_aggregate e ≡ form_has e.form
 unfolding has_aggregate
-expr_is e = fold_out-Expr Bool Bool (λ x. either (aggregates x) (parts x)) (λ x. x.form) e
+expr_is e = fold_out-Expr Bool Bool (λ x. either (is_aggregate_form x) (parts x)) (λ x. x.form) e
 
 -- A form's layer, with whether an aggregate stands in each operand.
 abbrev over : Form-F Form Expr → Form-F Bool Bool
 over x = map-Form Form Expr Bool Bool form_has has_aggregate x
 
-form_is : (form : Form) → form_has form ≡ either (aggregates (over (out-Form form))) (parts (over (out-Form form)))
+form_is : (form : Form) → form_has form ≡ either (is_aggregate_form (over (out-Form form))) (parts (over (out-Form form)))
 unfolding has_aggregate
-form_is form = fold_out-Form Bool Bool (λ x. either (aggregates x) (parts x)) (λ x. x.form) form
+form_is form = fold_out-Form Bool Bool (λ x. either (is_aggregate_form x) (parts x)) (λ x. x.form) form
 
-aggregates_over : (x : Form-F Form Expr) → aggregates (over x) ≡ aggregates x
+aggregates_over : (x : Form-F Form Expr) → is_aggregate_form (over x) ≡ is_aggregate_form x
 aggregates_over (Form-F.Or es) = refl
 aggregates_over _ = refl
 
@@ -45,13 +46,13 @@ either_is false tests = refl
 
 -- The form is an aggregate, or an operand has one.
 pub has_aggregate_is : (e : Expr)
-    → has_aggregate e ≡ (aggregates (out-Form e.form) || list_any has_aggregate (parts (out-Form e.form)))
+    → has_aggregate e ≡ (is_aggregate_form (out-Form e.form) || list_any has_aggregate (parts (out-Form e.form)))
 has_aggregate_is e =
     let x = out-Form e.form in
-    expr_is e ∙ form_is e.form ∙ either_is (aggregates (over x)) (parts (over x))
+    expr_is e ∙ form_is e.form ∙ either_is (is_aggregate_form (over x)) (parts (over x))
     ∙ ap (λ b. b || list_any (λ b. b) (parts (over x))) (aggregates_over x)
-    ∙ ap (λ bs. aggregates x || list_any (λ b. b) bs) (parts_over x)
-    ∙ ap (λ b. aggregates x || b) (any_mapped has_aggregate (parts x))
+    ∙ ap (λ bs. is_aggregate_form x || list_any (λ b. b) bs) (parts_over x)
+    ∙ ap (λ b. is_aggregate_form x || b) (any_mapped has_aggregate (parts x))
 
 -- An `or` whose first side is true, and one whose first side is false.
 pub or_then : (r a b : Bool) → r ≡ a → r ≡ true → r ≡ (a || b)

@@ -3,12 +3,17 @@ pub mod Usual
 pub mod Scopes
 pub mod Sound
 pub mod Scripts
-pub mod Layers
+pub mod Trees
 pub mod Placed
 pub mod Walked
 pub mod FirstRefusals
+pub mod Built
 pub mod Alone
+pub mod RowNumbers
 pub mod Gatherings
+pub mod Likenesses
+pub mod SameHeads
+pub mod Spanless
 pub mod Grouped
 pub mod Wholes
 pub mod StandardFacts
@@ -21,6 +26,7 @@ pub mod SoundOperands
 pub mod SoundOperators
 pub mod SoundColumns
 pub mod SoundCalls
+pub mod SoundNodes
 pub mod SoundTyping
 pub mod SoundConjuncts
 pub mod SoundStatements

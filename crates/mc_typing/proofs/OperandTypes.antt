@@ -1,5 +1,5 @@
 -- Typed operands of trees have types of the catalog, numbers that are taken for texts among them.
-use Rattle.std.proofs.Common.{◌≡◌, ℕ, ◌+◌, Bool, true, false, cond, List, [], ◌∷◌, Option, map}
+use Rattle.std.proofs.Common.{◌≡◌, ℕ, ◌+◌, Bool, true, false, cond, List, [], ◌∷◌, Option}
 use Rattle.std.proofs.Common.{refl}
 use Rattle.std.proofs.Common.{subst, arith}
 use Rattle.std.proofs.lemmas.List.Elements.{All-from_recursion}
@@ -11,11 +11,13 @@ use Rattle.mc_coerce.specs.Levels.{numeric}
 use Rattle.mc_ast.specs.declared.expr.Expr.{Expr}
 use Rattle.mc_catalog.specs.declared.catalog.Catalog.{Catalog}
 use Rattle.mc_typing.specs.declared.callee.Callee.{Callee}
+use Rattle.mc_typing.specs.declared.place.Place.{Place}
 use Rattle.mc_typing.specs.declared.scope.Scope.{Scope}
 use Rattle.mc_typing.specs.declared.typed.Node.TheVariants.{NumberText}
 use Rattle.mc_typing.specs.declared.typed.Ty.TheVariants.{Str}
 use Rattle.mc_typing.specs.declared.typed.TypedExpr.{TypedExpr}
-use Rattle.mc_typing.specs.Exprs.{Typing, before, operands, operands_from, turned, typing}
+use Rattle.mc_typing.specs.Aggregates.{aggregate_count}
+use Rattle.mc_typing.specs.Exprs.{Typing, before, operands, operands_from, turned, typing, typings}
 use Rattle.mc_typing.specs.Functions.{turns_to_text}
 use Rattle.mc_typing.specs.Operands.{AreTyped, IsTextOf, IsTyOf, is_number, of_number}
 use Rattle.mc_typing.specs.Operators.{as_text}
@@ -65,23 +67,29 @@ from_typed c s callee n (Err r ∷ ts) h all = tt
 
 -- Typed expressions have types of the catalog.
 abbrev pub TypingHolds : Type 0
-TypingHolds = (c : Catalog) (s : Scope) (expr : Expr) (x : TypedExpr) → IsScope c s
-    → typing c s expr ≡ Ok x → IsTyOf c x.ty
+TypingHolds = (c : Catalog) (s : Scope) (groups : List Expr) (place : Place) (number : ℕ)
+    (expr : Expr) (x : TypedExpr) → IsScope c s
+    → typing c s groups place number expr ≡ Ok x → IsTyOf c x.ty
 
 one_typed : (c : Catalog) (t : Typing) → ((x : TypedExpr) → t ≡ Ok x → IsTyOf c x.ty) → IsTyped c t
 one_typed c (Ok x) h = h x refl
 one_typed c (Err r) h = tt
 
-each_typed : TypingHolds → (c : Catalog) (s : Scope) (es : List Expr) → IsScope c s
-    → AllByRecursion (IsTyped c) (map (typing c s) es)
-each_typed law c s [] h = tt
-each_typed law c s (e ∷ es) h =
-    (one_typed c (typing c s e) (λ x is. law c s e x h is), each_typed law c s es h)
+each_typed : TypingHolds → (c : Catalog) (s : Scope) (groups : List Expr) (place : Place)
+    (number : ℕ) (es : List Expr) → IsScope c s
+    → AllByRecursion (IsTyped c) (typings c s groups place number es)
+each_typed law c s groups place number [] h = tt
+each_typed law c s groups place number (e ∷ es) h = (
+  one_typed c (typing c s groups place number e) (λ x is. law c s groups place number e x h is),
+  each_typed law c s groups place (number + aggregate_count e) es h,
+)
 
 pub operands_typed : TypingHolds
-    → (c : Catalog) (s : Scope) (callee : Option Callee) (es : List Expr)
-    (xs : List TypedExpr) → IsScope c s → operands c s callee (map (typing c s) es) ≡ Ok xs
-    → AreTyped c xs
-operands_typed law c s callee es xs h e = All-from_recursion (λ y. IsTyOf c y.ty) xs
+    → (c : Catalog) (s : Scope) (groups : List Expr) (place : Place) (number : ℕ)
+    (callee : Option Callee) (es : List Expr) (xs : List TypedExpr) → IsScope c s
+    → operands c s callee (typings c s groups place number es) ≡ Ok xs → AreTyped c xs
+operands_typed law c s groups place number callee es xs h e =
+    All-from_recursion (λ y. IsTyOf c y.ty) xs
     (subst (λ r. IfOk r (AllByRecursion (λ (y : TypedExpr). IsTyOf c y.ty))) e
-    (from_typed c s callee 0 (map (typing c s) es) h (each_typed law c s es h)))
+    (from_typed c s callee 0 (typings c s groups place number es) h
+    (each_typed law c s groups place number es h)))

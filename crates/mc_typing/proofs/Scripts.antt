@@ -4,7 +4,7 @@ use Rattle.std.specs.List.{AllByRecursion}
 use Rattle.mc_ast.specs.Texts.{Layer, HasUtf8Layer, HasUtf8To, HasUtf8}
 use Rattle.mc_ast.specs.declared.expr.Expr.{Expr}
 use Rattle.mc_ast.specs.declared.expr.Form.{Form, Form-F, out-Form}
-use Rattle.mc_typing.specs.Exprs.{parts}
+use Rattle.mc_typing.specs.Forms.{parts}
 
 each_part : (es : List Expr) → ((depth : ℕ) → AllByRecursion (λ e. HasUtf8To depth e.form) es)
     → AllByRecursion HasUtf8 es

@@ -16,6 +16,7 @@ use Rattle.mc_ast.specs.declared.operators.TrimSide.TheVariants.{Both, Leading, 
 use Rattle.mc_catalog.specs.declared.catalog.Catalog.{Catalog}
 use Rattle.mc_typing.specs.declared.callee.Callee.{Callee}
 use Rattle.mc_typing.specs.declared.callee.Callee.TheVariants as callee
+use Rattle.mc_typing.specs.declared.place.Place.{Place}
 use Rattle.mc_typing.specs.declared.scope.Scope.{Scope}
 use Rattle.mc_typing.specs.declared.typed.Func.{Func}
 use Rattle.mc_typing.specs.declared.typed.Func.TheVariants as func
@@ -24,6 +25,7 @@ use Rattle.mc_typing.specs.declared.typed.Node.TheVariants as node
 use Rattle.mc_typing.specs.declared.typed.Ty.{Ty}
 use Rattle.mc_typing.specs.declared.typed.Ty.TheVariants.{Int, Str}
 use Rattle.mc_typing.specs.declared.typed.TypedExpr.{TypedExpr}
+use Rattle.mc_typing.specs.Aggregates.{is_aggregate}
 use Rattle.mc_typing.specs.Calls.{call, called, digits_ty, first_operand, fitted}
 use Rattle.mc_typing.specs.Calls.{function_call, made_of, misfits, plain_call, strcmp, text_call}
 use Rattle.mc_typing.specs.Functions.{takes, trim_of}
@@ -43,7 +45,7 @@ use Rattle.mc_typing.proofs.SoundTexts.{of_collation_sound, shown_sound, version
 use Rattle.mc_typing.proofs.SoundTrees.{IsFine, fine_made}
 
 -- How many arguments
-eq_to : (a b : ℕ) → nat_eq a b ≡ true → a ≡ b
+pub eq_to : (a b : ℕ) → nat_eq a b ≡ true → a ≡ b
 eq_to a b e = grind (arith, common_steps)
 
 one_or_two : (n : ℕ) → nat_eq n 1 ≡ true → (nat_le 1 n && nat_le n 2) ≡ true
@@ -239,25 +241,29 @@ module _ (known : Known) (c : Catalog) (s : Scope) (scope : IsScope c s)
   trim_sound Trailing name xs h texts many =
       function_sound func.TrimTrailing name xs h (λ k d lt e. texts k d lt) many
 
-  called_sound : (name : List ℕ) (which : Callee) (xs : List TypedExpr) → AllByRecursion Sound xs
+  called_sound : (place : Place) (number : ℕ) (name : List ℕ) (which : Callee)
+      (xs : List TypedExpr) → is_aggregate (Some which) ≡ false → AllByRecursion Sound xs
       → AreTurned (Some which) 0 xs → takes which (length xs) ≡ true
-      → IfOk (called c s name which xs) Sound
-  called_sound name (callee.Of function) xs h turned many =
+      → IfOk (called c s place number name which xs) Sound
+  called_sound place number name (callee.Of function) xs plain h turned many =
       function_sound function name xs h turned (arity function (length xs) many)
-  called_sound name callee.Version xs h turned many = version_sound known c s scope aggregates
-  called_sound name callee.Aggregate xs h turned many = tt
-  called_sound name callee.Charset xs h turned many =
+  called_sound place number name callee.Version xs plain h turned many =
+      version_sound known c s scope aggregates
+  called_sound place number name (callee.Aggregate agg) xs plain h turned many = absurd (cc)
+  called_sound place number name callee.Charset xs plain h turned many =
       shown_sound known c s scope aggregates callee.Charset (first_operand c s xs)
-  called_sound name callee.Collation xs h turned many =
+  called_sound place number name callee.Collation xs plain h turned many =
       shown_sound known c s scope aggregates callee.Collation (first_operand c s xs)
-  called_sound name callee.Coercibility xs h turned many =
+  called_sound place number name callee.Coercibility xs plain h turned many =
       shown_sound known c s scope aggregates callee.Coercibility (first_operand c s xs)
-  called_sound name callee.Weights xs h turned many =
+  called_sound place number name callee.Weights xs plain h turned many =
       shown_sound known c s scope aggregates callee.Weights (first_operand c s xs)
 
-  pub named_sound : (name : List ℕ) (which : Option Callee) (xs : List TypedExpr)
-      → AllByRecursion Sound xs → AreTurned which 0 xs → IfOk (call c s name which xs) Sound
-  named_sound name None xs h turned = tt
-  named_sound name (Some which) xs h turned = either Sound (takes which (length xs))
-      (called c s name which xs) (Err (wrong_count name))
-      (λ e. called_sound name which xs h turned e) (λ _. tt)
+  pub named_sound : (place : Place) (number : ℕ) (name : List ℕ) (which : Option Callee)
+      (xs : List TypedExpr) → is_aggregate which ≡ false → AllByRecursion Sound xs
+      → AreTurned which 0 xs → IfOk (call c s place number name which xs) Sound
+  named_sound place number name None xs plain h turned = tt
+  named_sound place number name (Some which) xs plain h turned =
+      either Sound (takes which (length xs))
+      (called c s place number name which xs) (Err (wrong_count name))
+      (λ e. called_sound place number name which xs plain h turned e) (λ _. tt)

@@ -94,7 +94,7 @@ abbrev pub AreTurned : Option Callee → ℕ → List TypedExpr → Type 0
 AreTurned callee n xs = (k : ℕ) (d : TypedExpr) → k < length xs
     → turns_to_text callee (n + k) ≡ true → IsTextual (get_or xs k d).ty
 
-turned_cons : (callee : Option Callee) (n : ℕ) (x : TypedExpr) (xs : List TypedExpr)
+pub turned_cons : (callee : Option Callee) (n : ℕ) (x : TypedExpr) (xs : List TypedExpr)
     → (turns_to_text callee n ≡ true → IsTextual x.ty) → AreTurned callee (n + 1) xs
     → AreTurned callee n (x ∷ xs)
 turned_cons callee n x xs h hs zero d lt e =
@@ -141,7 +141,7 @@ module _ (c : Catalog) (s : Scope) (scope : IsScope c s) (aggregates : List Ty) 
       → Sound (as_text c s x) × IsTextual (as_text c s x).ty
   as_text_sound x h = by_test x (is_number x.ty) refl h
 
-  turned_sound : (b : Bool) (x : TypedExpr) → Sound x
+  pub turned_sound : (b : Bool) (x : TypedExpr) → Sound x
       → Sound (turned c s b x) × (b ≡ true → IsTextual (turned c s b x).ty)
   turned_sound true x h = let k = as_text_sound x h in (k.0, λ e. k.1)
   turned_sound false x h = (h, λ e. absurd (cc))

@@ -1,11 +1,14 @@
 -- What typing gives of a statement is sound.
-use Rattle.std.proofs.Common.{◌≡◌, ℕ, suc, ◌+◌, ◌<◌, Bool, true, false, List, [], ◌∷◌, ◌++◌}
-use Rattle.std.proofs.Common.{Option, None, Some, length, map, refl, ◌∙◌, subst, arith}
+use Rattle.std.proofs.Common.{◌≡◌, ℕ, suc, ◌+◌, ◌<◌, Bool, true, false, not, ◌||◌, cond, List, []}
+use Rattle.std.proofs.Common.{◌∷◌, ◌++◌, Option, None, Some, append_assoc, length, map, refl, sym}
+use Rattle.std.proofs.Common.{ap}
+use Rattle.std.proofs.Common.{◌∙◌, subst, arith}
 use Rattle.std.proofs.lemmas.List.{length-append, length-map}
 use Rattle.std.proofs.lemmas.List.Elements.{All-from_recursion}
 use Rattle.std.proofs.lemmas.List.Quantifiers.{position-Some}
-use Rattle.std.specs.Prelude.{IfOk, Result, Ok, Err, codes, position, slice_get}
-use Rattle.std.specs.List.{AllByRecursion}
+use Rattle.std.specs.Prelude.{IfOk, Ok, Err, codes, position, slice_get, unwrap_or}
+use Rattle.std.specs.List.{AllByRecursion, flat_map, list_any}
+use Rattle.std.specs.Option.{option_map_or}
 use Rattle.std.specs.Str.{bytes_eq}
 use Rattle.mc_base.specs.Results.{result_and_then}
 use Rattle.mc_ast.specs.declared.expr.Expr.{Expr}
@@ -16,31 +19,44 @@ use Rattle.mc_catalog.specs.Lawful.{IsLawful}
 use Rattle.mc_catalog.specs.declared.catalog.Catalog.{Catalog}
 use Rattle.mc_catalog.specs.declared.catalog.ColumnDecl.{ColumnDecl}
 use Rattle.mc_catalog.specs.declared.catalog.TableDecl.{TableDecl}
+use Rattle.mc_typing.specs.declared.place.Place.{Place}
+use Rattle.mc_typing.specs.declared.place.Place.TheVariants.{Row, Group}
 use Rattle.mc_typing.specs.declared.scope.Scope.{Scope}
 use Rattle.mc_typing.specs.declared.session.Session.{Session}
+use Rattle.mc_typing.specs.declared.typed.Node.TheVariants as node
+use Rattle.mc_typing.specs.declared.typed.Node.{Node-F}
 use Rattle.mc_typing.specs.declared.typed.Ty.{Ty}
 use Rattle.mc_typing.specs.declared.typed.Typed.{Typed}
 use Rattle.mc_typing.specs.declared.typed.TypedExpr.{TypedExpr}
 use Rattle.mc_typing.specs.declared.typed.TypedOrder.{TypedOrder}
-use Rattle.mc_typing.specs.Exprs.{plain, typing}
-use Rattle.mc_typing.specs.Messages.{no_table, wrong_argument}
+use Rattle.mc_typing.specs.AggregateTypes.{aggregate_types}
+use Rattle.mc_typing.specs.Aggregates.{aggregate_count, total}
+use Rattle.mc_typing.specs.Columns.{column_at}
+use Rattle.mc_typing.specs.Exprs.{Typing, in_row, plain, typing}
+use Rattle.mc_typing.specs.Messages.{no_table, not_grouped, wrong_argument}
 use Rattle.mc_typing.specs.OfType.{IsNumeric}
 use Rattle.mc_typing.specs.Operands.{is_text}
 use Rattle.mc_typing.specs.Scope.{IsScope, columns_of}
 use Rattle.mc_typing.specs.Sound.{IsSound}
 use Rattle.mc_typing.specs.SoundStatements.{IsSoundStatement, row_types, statement_aggregates}
-use Rattle.mc_typing.specs.Statements.{condition, conjuncts, header_of, is_int, item_expr}
-use Rattle.mc_typing.specs.Statements.{order_keys, order_typing, own_order, scope_in, star_columns}
-use Rattle.mc_typing.specs.Statements.{star_from, typed_all, typed_in, typed_of, typed_statement}
-use Rattle.mc_typing.specs.Statements.{where_of}
+use Rattle.mc_typing.specs.Statements.{all_items, all_keys, behind, condition, conjuncts}
+use Rattle.mc_typing.specs.Statements.{group_keys}
+use Rattle.mc_typing.specs.Statements.{group_typing, has_aggregate, has_no_groups, header_of}
+use Rattle.mc_typing.specs.Statements.{is_grouped, is_int, item_expr, items_count, loose_column}
+use Rattle.mc_typing.specs.Statements.{order_count, order_keys, order_typing, own_order, own_place}
+use Rattle.mc_typing.specs.Statements.{scope_in, star_columns, star_from, star_items, typed_all}
+use Rattle.mc_typing.specs.Statements.{typed_in, typed_of, typed_statement, where_of}
+use Rattle.mc_typing.proofs.Built.{over}
 use Rattle.mc_typing.proofs.Known.{Known}
 use Rattle.mc_typing.proofs.SoundColumns.{column_at_sound}
 use Rattle.mc_typing.proofs.SoundConjuncts.{IsTruth, all_append, conjuncts_sound}
-use Rattle.mc_typing.proofs.SoundOperands.{Operands, each, either, numeric_ty, operands_sound, then}
+use Rattle.mc_typing.proofs.SoundOperands.{Operands, each, either, numeric_ty, operands_sound}
+use Rattle.mc_typing.proofs.SoundOperands.{or_left, then}
 use Rattle.mc_typing.proofs.SoundTexts.{chosen}
 use Rattle.mc_typing.proofs.SoundTrees.{IsFine}
-use Rattle.mc_typing.proofs.SoundTyping.{of_ok, typing_good}
-use Rattle.mc_typing.proofs.Ungrouped.{none_all, none_keys}
+use Rattle.mc_typing.proofs.SoundTyping.{AreWell, HasFrom, IsWell, from_behind, from_front, has_own}
+use Rattle.mc_typing.proofs.SoundTyping.{of_ok, operands_well, typing_well}
+use Rattle.mc_typing.proofs.Trees.{total_mapped}
 
 -- The scope of a statement
 table_within : (tables : List TableDecl) (name : List ℕ) (place : ℕ)
@@ -83,16 +99,52 @@ headers_many f g c columns items xs e = omega (
   star_many c 0 columns,
 )
 
-weaken : {A E : Type 0} (P Q : A → Type 0) (r : Result A E) → ((a : A) → P a → Q a) → IfOk r P
-    → IfOk r Q
-weaken P Q (Ok a) f h = f a h
-weaken P Q (Err e) f h = tt
+from_zero : (n : ℕ) → 0 + n ≡ n
+from_zero n = omega arith
 
-for_all : {A E : Type 0} (P : List Ty → A → Type 0) (r : Result A E)
-    → ((aggregates : List Ty) → IfOk r (P aggregates))
-    → IfOk r (λ a. (aggregates : List Ty) → P aggregates a)
-for_all P (Ok a) h = h
-for_all P (Err e) h = tt
+-- Types of lists
+types_append : (xs ys : List TypedExpr) → flat_map aggregate_types (xs ++ ys)
+    ≡ flat_map aggregate_types xs ++ flat_map aggregate_types ys
+types_append [] ys = refl
+types_append (x ∷ xs) ys =
+    ap (λ l. aggregate_types x ++ l) (types_append xs ys)
+    ∙ sym (append_assoc (aggregate_types x) (flat_map aggregate_types xs)
+    (flat_map aggregate_types ys))
+
+star_types : (c : Catalog) (place : ℕ) (columns : List ColumnDecl)
+    → flat_map aggregate_types (star_from c place columns) ≡ []
+star_types c place [] = refl
+star_types c place (d ∷ columns) =
+    ap (λ l. l ++ flat_map aggregate_types (star_from c (place + 1) columns))
+    (over (node.Column place) (Node-F.Column place) (column_at c place d).ty
+    (node.outs-Column place) refl).types
+    ∙ star_types c (place + 1) columns
+
+-- A statement that isn't grouped
+not_false : (b : Bool) → not b ≡ false → b ≡ true
+not_false true e = refl
+not_false false e = cc
+
+no_groups : (groups : List Expr) → has_no_groups groups ≡ true → groups ≡ []
+no_groups [] e = refl
+no_groups (g ∷ groups) e = cc
+
+ungrouped_groups : (statement : Statement) → is_grouped statement ≡ false
+    → statement.groups ≡ []
+unfolding is_grouped
+ungrouped_groups statement e = no_groups statement.groups
+    (not_false (has_no_groups statement.groups)
+    (or_left (not (has_no_groups statement.groups))
+    (list_any (λ item. has_aggregate item.expr) statement.items
+    || list_any (λ o. has_aggregate o.expr) statement.orders) e))
+
+ungrouped_place : (statement : Statement) → is_grouped statement ≡ false
+    → own_place statement ≡ Row
+ungrouped_place statement e = ap (λ b. cond b Group Row) e
+
+none_left : (xs : List TypedExpr) → length xs ≡ 0 → xs ≡ []
+none_left [] e = refl
+none_left (x ∷ xs) e = absurd (omega (arith, e))
 
 module _ (known : Known) (c : Catalog) (s : Scope) (scope : IsScope c s) where
   abbrev Sound : List Ty → TypedExpr → Type 0
@@ -101,28 +153,21 @@ module _ (known : Known) (c : Catalog) (s : Scope) (scope : IsScope c s) where
   abbrev Fine : List Ty → TypedExpr → Type 0
   Fine aggregates x = IsFine c (row_types c s.table) aggregates x
 
-  sound_typing : (aggregates : List Ty) (e : Expr) → IfOk (typing c s e) (Sound aggregates)
-  sound_typing aggregates e = weaken (Fine aggregates) (Sound aggregates) (typing c s e)
-      (λ x h. h.1) (typing_good known c s scope aggregates e)
+  abbrev Well : Place → ℕ → ℕ → TypedExpr → Type 0
+  Well place number count x = IsWell known c s scope place number count x
 
-  -- Items
-  exprs_good : (aggregates : List Ty) (es : List Expr)
-      → AllByRecursion (λ t. IfOk t (Fine aggregates)) (map (typing c s) es)
-  exprs_good aggregates [] = tt
-  exprs_good aggregates (e ∷ es) =
-      (typing_good known c s scope aggregates e, exprs_good aggregates es)
+  -- What stands in a row is sound where there are no aggregates.
+  row_fine : (x : TypedExpr) (count : ℕ) → Well Row 0 count x → Fine [] x
+  row_fine x count w = w.sound [] (subst (HasFrom [] 0) (sym (w.row refl)) tt)
 
-  abbrev AreItems : List Expr → List TypedExpr → Type 0
-  AreItems es xs = (aggregates : List Ty)
-      → Operands c s scope aggregates plain 0 (length (map (typing c s) es)) xs
+  row_sound : (e : Expr) → IfOk (in_row c s e) (Fine [])
+  row_sound e = of_typing (in_row c s e) (typing_well known c s scope [] e Row 0)
+    where
+      of_typing : (t : Typing) → IfOk t (Well Row 0 (aggregate_count e)) → IfOk t (Fine [])
+      of_typing (Ok x) w = row_fine x (aggregate_count e) w
+      of_typing (Err r) w = tt
 
-  items_sound : (es : List Expr) → IfOk (typed_all c s es) (AreItems es)
-  items_sound es = for_all
-      (λ aggregates xs. Operands c s scope aggregates plain 0 (length (map (typing c s) es)) xs)
-      (typed_all c s es)
-      (λ aggregates. operands_sound c s scope aggregates plain 0 (map (typing c s) es)
-      (exprs_good aggregates es))
-
+  -- Columns of `*`
   star_sound : (aggregates : List Ty) (place : ℕ) (columns : List ColumnDecl)
       → ((k : ℕ) (d : ColumnDecl) → slice_get columns k ≡ Some d
       → slice_get (columns_of c s) (place + k) ≡ Some d)
@@ -144,107 +189,237 @@ module _ (known : Known) (c : Catalog) (s : Scope) (scope : IsScope c s) where
       subst (λ n. slice_get (columns_of c s) n ≡ Some d) same e)
   star_all aggregates false = tt
 
+  star_is : (place : Place) (groups : List Expr) (columns : List ColumnDecl)
+      → IfOk (star_items c place groups columns) (λ xs. xs ≡ star_from c 0 columns)
+  star_is place groups columns = of_found (loose_column place groups columns)
+    where
+      of_found : (found : Option ColumnDecl) → IfOk (elim found [
+        | None ↦ Ok (star_from c 0 columns)
+        | Some column ↦ Err (not_grouped column.name)
+      ]) (λ xs. xs ≡ star_from c 0 columns)
+      of_found None = refl
+      of_found (Some column) = tt
+
+  -- Items
+  record AreItems (statement : Statement) (items : List TypedExpr) : Type 0 where
+    pub own : List TypedExpr
+    pub is : items ≡ star_from c 0 (star_columns c s statement.star) ++ own
+    pub well : AreWell known c s scope (own_place statement) 0 (items_count statement) plain 0
+        (length statement.items) own
+
+  abbrev exprs : Statement → List Expr
+  exprs statement = map (λ item. item.expr) statement.items
+
+  own_well : (statement : Statement)
+      → IfOk (typed_all c s statement.groups (own_place statement) (exprs statement))
+      (AreWell known c s scope (own_place statement) 0 (items_count statement) plain 0
+      (length statement.items))
+  own_well statement =
+      subst (λ n. IfOk (typed_all c s statement.groups (own_place statement) (exprs statement))
+      (AreWell known c s scope (own_place statement) 0 n plain 0 (length statement.items)))
+      (total_mapped aggregate_count (λ (item : Item). item.expr) statement.items)
+      (subst (λ n. IfOk (typed_all c s statement.groups (own_place statement) (exprs statement))
+      (AreWell known c s scope (own_place statement) 0 (total aggregate_count (exprs statement))
+      plain 0 n))
+      (length-map statement.items (λ (item : Item). item.expr))
+      (operands_well known c s scope statement.groups (own_place statement) plain 0 0
+      (exprs statement) (all_typed (exprs statement))))
+    where
+      all_typed : (es : List Expr) → AllByRecursion (λ e. (n : ℕ)
+          → IfOk (typing c s statement.groups (own_place statement) n e)
+          (Well (own_place statement) n (aggregate_count e))) es
+      all_typed [] = tt
+      all_typed (e ∷ es) = (
+        (λ n. typing_well known c s scope statement.groups e (own_place statement) n),
+        all_typed es,
+      )
+
+  items_sound : (statement : Statement)
+      → IfOk (all_items c s statement) (AreItems statement)
+  items_sound statement =
+      let star = star_from c 0 (star_columns c s statement.star) in
+      let own = typed_all c s statement.groups (own_place statement) (exprs statement) in
+      then (λ xs. xs ≡ star) (AreItems statement)
+      (star_items c (own_place statement) statement.groups (star_columns c s statement.star))
+      (λ xs. behind xs own)
+      (star_is (own_place statement) statement.groups (star_columns c s statement.star))
+      (λ xs e. then (AreWell known c s scope (own_place statement) 0 (items_count statement) plain 0
+      (length statement.items)) (AreItems statement) own (λ ys. Ok (xs ++ ys)) (own_well statement)
+      (λ ys w. record { own = ys; is = ap (λ l. l ++ ys) e; well = w }))
+
   -- WHERE
   abbrev AreTruths : List TypedExpr → Type 0
   AreTruths xs = AllByRecursion (IsTruth c (row_types c s.table) []) xs
 
   where_sound : (filter : Option Expr) → IfOk (where_of c s filter) AreTruths
   where_sound None = tt
-  where_sound (Some e) = then (Sound []) AreTruths (typing c s e) condition
-      (sound_typing [] e)
+  where_sound (Some e) = then (Fine []) AreTruths (in_row c s e) condition (row_sound e)
       (λ x h. either AreTruths (is_text x.ty) (Err (wrong_argument (codes "where")))
       (Ok (conjuncts x)) (λ _. tt)
-      (λ t. conjuncts_sound c (row_types c s.table) [] x (h, numeric_ty x.ty t)))
+      (λ t. conjuncts_sound c (row_types c s.table) [] x (h.1, numeric_ty x.ty t)))
+
+  -- GROUP BY
+  abbrev AreGroups : List Expr → List TypedExpr → Type 0
+  AreGroups groups xs = Operands c s scope [] plain 0 (length groups) xs
+
+  groups_sound : (groups : List Expr) → IfOk (group_keys c s groups) (AreGroups groups)
+  groups_sound groups =
+      subst (λ n. IfOk (group_keys c s groups) (Operands c s scope [] plain 0 n))
+      (length-map groups (group_typing c s))
+      (operands_sound c s scope [] plain 0 (map (group_typing c s) groups) (all_typed groups))
+    where
+      all_typed : (es : List Expr)
+          → AllByRecursion (λ t. IfOk t (Fine [])) (map (group_typing c s) es)
+      all_typed [] = tt
+      all_typed (e ∷ es) = (
+        either (Fine []) (is_int e.form) (Err (wrong_argument (codes "group by"))) (in_row c s e)
+            (λ _. tt) (λ _. row_sound e),
+        all_typed es,
+      )
 
   -- ORDER BY
-  order_sound : (aggregates : List Ty) (items : List Item) (e : Expr)
-      → IfOk (order_typing c s items e) (Sound aggregates)
-  order_sound aggregates items e = chosen (Sound aggregates) (item_expr items e) (typing c s)
-      (own_order c s e) (λ found _. sound_typing aggregates found)
-      (either (Sound aggregates) (is_int e.form) (Err (wrong_argument (codes "order by")))
-      (typing c s e) (λ _. tt) (λ _. sound_typing aggregates e))
+  abbrev key_types : List TypedOrder → List Ty
+  key_types keys = flat_map (λ o. aggregate_types o.expr) keys
 
-  abbrev AreKeys : List Ty → List TypedOrder → Type 0
-  AreKeys aggregates keys = AllByRecursion (λ o. Sound aggregates o.expr) keys
+  record AreKeys (place : Place) (number : ℕ) (keys : List TypedOrder) : Type 0 where
+    pub row : place ≡ Row → key_types keys ≡ []
+    pub sound : (aggregates : List Ty) → HasFrom aggregates number (key_types keys)
+        → AllByRecursion (λ o. Sound aggregates o.expr) keys
 
-  keys_sound : (aggregates : List Ty) (items : List Item) (os : List OrderItem)
-      → IfOk (order_keys c s items os) (AreKeys aggregates)
-  keys_sound aggregates items [] = tt
-  keys_sound aggregates items (o ∷ os) =
-      then (Sound aggregates) (AreKeys aggregates) (order_typing c s items o.expr)
-      (λ x. result_and_then (λ keys. Ok (record { expr = x; desc = o.desc } ∷ keys))
-      (order_keys c s items os))
-      (order_sound aggregates items o.expr)
-      (λ x h. then (AreKeys aggregates) (AreKeys aggregates) (order_keys c s items os)
+  order_well : (groups : List Expr) (place : Place) (number : ℕ) (e : Expr)
+      (found : Option Expr)
+      → IfOk (option_map_or (typing c s groups place number) found
+      (own_order c s groups place number e))
+      (Well place number (aggregate_count (unwrap_or found e)))
+  order_well groups place number e (Some x) = typing_well known c s scope groups x place number
+  order_well groups place number e None =
+      either (Well place number (aggregate_count e)) (is_int e.form)
+      (Err (wrong_argument (codes "order by"))) (typing c s groups place number e)
+      (λ _. tt) (λ _. typing_well known c s scope groups e place number)
+
+  key_joined : (place : Place) (number count : ℕ) (desc : Bool) (x : TypedExpr)
+      (keys : List TypedOrder) → Well place number count x
+      → AreKeys place (number + count) keys
+      → AreKeys place number (record { expr = x; desc = desc } ∷ keys)
+  key_joined place number count desc x keys w k = record {
+    row = λ p. ap (λ l. l ++ key_types keys) (w.row p) ∙ k.row p;
+    sound = λ all h. (
+      (w.sound all (from_front all number (aggregate_types x) (key_types keys) h)).1,
+      k.sound all (subst (λ n. HasFrom all (number + n) (key_types keys)) w.many
+          (from_behind all number (aggregate_types x) (key_types keys) h)),
+    );
+  }
+
+  keys_sound : (groups : List Expr) (place : Place) (items : List Item) (number : ℕ)
+      (os : List OrderItem)
+      → IfOk (order_keys c s groups place items number os) (AreKeys place number)
+  keys_sound groups place items number [] = record { row = λ p. refl; sound = λ all h. tt }
+  keys_sound groups place items number (o ∷ os) =
+      let count = order_count items o.expr in
+      let rest = order_keys c s groups place items (number + count) os in
+      then (Well place number count) (AreKeys place number)
+      (order_typing c s groups place items number o.expr)
+      (λ x. result_and_then (λ keys. Ok (record { expr = x; desc = o.desc } ∷ keys)) rest)
+      (order_well groups place number o.expr (item_expr items o.expr))
+      (λ x w. then (AreKeys place (number + count)) (AreKeys place number) rest
       (λ keys. Ok (record { expr = x; desc = o.desc } ∷ keys))
-      (keys_sound aggregates items os) (λ keys k. (h, k)))
+      (keys_sound groups place items (number + count) os)
+      (λ keys k. key_joined place number count o.desc x keys w k))
 
   -- The whole
-  all_items : (aggregates : List Ty) (star : Bool) (es : List Expr) (xs : List TypedExpr)
-      → AreItems es xs
-      → AllByRecursion (Sound aggregates) (star_from c 0 (star_columns c s star) ++ xs)
-  all_items aggregates star es xs items =
-      all_append (Sound aggregates) (star_from c 0 (star_columns c s star)) xs
-      (star_all aggregates star)
-      (each (Fine aggregates) (Sound aggregates) (λ x h. h.1) xs (items aggregates).0)
+  all_types : (statement : Statement) (items : List TypedExpr) (i : AreItems statement items)
+      (keys : List TypedOrder)
+      → flat_map aggregate_types items ++ key_types keys
+      ≡ flat_map aggregate_types i.own ++ key_types keys
+  all_types statement items i keys =
+      let columns = star_columns c s statement.star in
+      ap (λ l. l ++ key_types keys)
+      (ap (flat_map aggregate_types) i.is
+      ∙ (types_append (star_from c 0 columns) i.own
+      ∙ ap (λ l. l ++ flat_map aggregate_types i.own) (star_types c 0 columns)))
 
-  made_statement : (script : List ℕ) (statement : Statement) (xs : List TypedExpr)
-      (conditions : List TypedExpr) (orders : List TypedOrder)
-      → AreItems (map (λ item. item.expr) statement.items) xs → AreTruths conditions
-      → ((aggregates : List Ty) → AreKeys aggregates orders)
-      → IsSoundStatement c (typed_of script statement c s xs conditions orders)
-  made_statement script statement xs conditions orders items truths keys =
-      let t : Typed = typed_of script statement c s xs conditions orders in
-      let aggregates = statement_aggregates t in
-      let star = star_from c 0 (star_columns c s statement.star) in
+  items_in : (statement : Statement) (items : List TypedExpr) (i : AreItems statement items)
+      (keys : List TypedOrder) (all : List Ty)
+      → all ≡ flat_map aggregate_types i.own ++ key_types keys
+      → AllByRecursion (Sound all) items
+  items_in statement items i keys all e =
+      let own = flat_map aggregate_types i.own in
+      let here : HasFrom all 0 (own ++ key_types keys) =
+      subst (HasFrom all 0) e (has_own [] all) in
+      subst (AllByRecursion (Sound all)) (sym i.is)
+      (all_append (Sound all) (star_from c 0 (star_columns c s statement.star)) i.own
+      (star_all all statement.star)
+      (each (Fine all) (Sound all) (λ x h. h.1) i.own
+      (i.well.sound all (from_front all 0 own (key_types keys) here)).0))
+
+  keys_in : (statement : Statement) (items : List TypedExpr) (i : AreItems statement items)
+      (keys : List TypedOrder) (all : List Ty)
+      → AreKeys (own_place statement) (items_count statement) keys
+      → all ≡ flat_map aggregate_types i.own ++ key_types keys
+      → AllByRecursion (λ o. Sound all o.expr) keys
+  keys_in statement items i keys all k e =
+      let own = flat_map aggregate_types i.own in
+      let here : HasFrom all 0 (own ++ key_types keys) =
+      subst (HasFrom all 0) e (has_own [] all) in
+      k.sound all (subst (λ n. HasFrom all n (key_types keys))
+      (from_zero (length own) ∙ i.well.many) (from_behind all 0 own (key_types keys) here))
+
+  made_statement : (script : List ℕ) (statement : Statement)
+      (items conditions groups : List TypedExpr)
+      (keys : List TypedOrder) → AreItems statement items → AreTruths conditions
+      → AreGroups statement.groups groups
+      → AreKeys (own_place statement) (items_count statement) keys
+      → IsSoundStatement c (typed_of script statement c s items conditions groups keys)
+  made_statement script statement items conditions groups keys i truths g k =
+      let t : Typed = typed_of script statement c s items conditions groups keys in
+      let all = statement_aggregates t in
+      let same = all_types statement items i keys in
       record {
         table = scope.table;
         header = headers_many (λ column. column.name) (header_of script) c
-            (star_columns c s statement.star) statement.items xs
-            ((items []).2 ∙ length-map (map (λ item. item.expr) statement.items) (typing c s)
-            ∙ length-map statement.items (λ item. item.expr));
-        items = All-from_recursion (Sound aggregates) (star ++ xs)
-            (all_items aggregates statement.star (map (λ item. item.expr) statement.items)
-            xs items);
+            (star_columns c s statement.star) statement.items i.own i.well.as_many
+            ∙ ap (λ l. length l) (sym i.is);
+        items = All-from_recursion (Sound all) items (items_in statement items i keys all same);
         conjuncts = All-from_recursion (Sound []) conditions
             (each (IsTruth c (row_types c s.table) []) (Sound []) (λ x h. h.0) conditions truths);
         truths = All-from_recursion (λ x. IsNumeric x.ty) conditions
             (each (IsTruth c (row_types c s.table) []) (λ x. IsNumeric x.ty) (λ x h. h.1) conditions
             truths);
-        groups = λ k d lt. absurd (omega (arith, lt));
-        orders = All-from_recursion (λ o. Sound aggregates o.expr) orders (keys aggregates);
-        plain = record {
-          ungrouped = refl;
-          groups = refl;
-          aggregates = rw (
-            none_all c (row_types c s.table) (star ++ xs)
-                (all_items [] statement.star (map (λ item. item.expr) statement.items) xs items),
-            none_keys c (row_types c s.table) orders (keys []),
-          ) refl;
-        };
+        groups = All-from_recursion (Sound []) groups
+            (each (Fine []) (Sound []) (λ x h. h.1) groups g.0);
+        orders = All-from_recursion (λ o. Sound all o.expr) keys
+            (keys_in statement items i keys all k same);
+        ungrouped = λ e. (
+          none_left groups (g.2 ∙ ap (λ l. length l) (ungrouped_groups statement e)),
+          same ∙ (ap (λ l. l ++ key_types keys) (i.well.row (ungrouped_place statement e))
+              ∙ k.row (ungrouped_place statement e)),
+        );
       }
 
   pub statement_in : (script : List ℕ) (statement : Statement)
       → IfOk (typed_in script statement c s) (IsSoundStatement c)
   statement_in script statement =
-      let es = map (λ item. item.expr) statement.items in
-      then (AreItems es) (IsSoundStatement c) (typed_all c s es)
-      (λ items. result_and_then (λ conditions. result_and_then (λ orders.
-      Ok (typed_of script statement c s items conditions orders))
-      (order_keys c s statement.items statement.orders)) (where_of c s statement.filter))
-      (items_sound es)
-      (λ xs items. then AreTruths (IsSoundStatement c) (where_of c s statement.filter)
-      (λ conditions. result_and_then (λ orders.
-      Ok (typed_of script statement c s xs conditions orders))
-      (order_keys c s statement.items statement.orders))
+      then (AreItems statement) (IsSoundStatement c) (all_items c s statement)
+      (λ items. result_and_then (λ conditions. result_and_then (λ groups.
+      result_and_then (λ orders. Ok (typed_of script statement c s items conditions groups orders))
+      (all_keys c s statement)) (group_keys c s statement.groups)) (where_of c s statement.filter))
+      (items_sound statement)
+      (λ items i. then AreTruths (IsSoundStatement c) (where_of c s statement.filter)
+      (λ conditions. result_and_then (λ groups.
+      result_and_then (λ orders. Ok (typed_of script statement c s items conditions groups orders))
+      (all_keys c s statement)) (group_keys c s statement.groups))
       (where_sound statement.filter)
-      (λ conditions truths.
-      then (λ orders. (aggregates : List Ty) → AreKeys aggregates orders) (IsSoundStatement c)
-      (order_keys c s statement.items statement.orders)
-      (λ orders. Ok (typed_of script statement c s xs conditions orders))
-      (for_all AreKeys (order_keys c s statement.items statement.orders)
-      (λ aggregates. keys_sound aggregates statement.items statement.orders))
-      (λ orders keys. made_statement script statement xs conditions orders items truths keys)))
+      (λ conditions truths. then (AreGroups statement.groups) (IsSoundStatement c)
+      (group_keys c s statement.groups)
+      (λ groups. result_and_then (λ orders.
+      Ok (typed_of script statement c s items conditions groups orders)) (all_keys c s statement))
+      (groups_sound statement.groups)
+      (λ groups g. then (AreKeys (own_place statement) (items_count statement)) (IsSoundStatement c)
+      (all_keys c s statement)
+      (λ orders. Ok (typed_of script statement c s items conditions groups orders))
+      (keys_sound statement.groups (own_place statement) statement.items (items_count statement)
+      statement.orders)
+      (λ keys k. made_statement script statement items conditions groups keys i truths g k))))
 
 pub statement_good : Known → (script : List ℕ) (statement : Statement) (c : Catalog)
     (session : Session) → IsLawful c

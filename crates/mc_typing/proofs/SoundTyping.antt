@@ -1,314 +1,468 @@
--- What typing gives is sound.
-use Rattle.std.proofs.Common.{◌≡◌, ℕ, true, List, [], ◌∷◌, Option, None, Some}
-use Rattle.std.proofs.Common.{length, map, refl, sym, subst, arith}
-use Rattle.std.specs.Prelude.{IfOk, Result, Ok, Err, ◌&&◌, codes, nat_le, pos}
-use Rattle.std.specs.List.{AllByRecursion}
-use Rattle.mc_charset.specs.declared.charset.Charset.TheVariants.{Binary as SetBinary}
-use Rattle.mc_base.specs.Results.{result_and_then}
-use Rattle.mc_ast.specs.declared.expr.Expr.{Expr, Expr-F, fold-Expr, fold-roll-Expr, ind-Expr}
-use Rattle.mc_ast.specs.declared.expr.Expr.{map-Expr, roll-Expr}
-use Rattle.mc_ast.specs.declared.expr.Form.{Form, Form-F, fold-Form, fold-roll-Form, map-Form}
-use Rattle.mc_ast.specs.declared.expr.Form.{roll-Form}
-use Rattle.mc_ast.specs.declared.operators.TrimSide.{TrimSide}
+-- What typing gives is sound wherever the aggregates from its number on have the types of its own.
+use Rattle.std.proofs.Common.{◌≡◌, ℕ, suc, zero, ◌+◌, Bool, true, false, cond, List, [], ◌∷◌, ◌++◌}
+use Rattle.std.proofs.Common.{Option, None, Some, append-nil, append_assoc, length, length-append}
+use Rattle.std.proofs.Common.{refl, sym, ap, ◌∙◌, subst, arith}
+use Rattle.std.specs.Prelude.{IfOk, Result, Ok, Err, codes, slice_get}
+use Rattle.std.specs.List.{AllByRecursion, flat_map}
+use Rattle.mc_ast.specs.declared.expr.Expr.{Expr}
+use Rattle.mc_ast.specs.declared.expr.Form.{Form, Form-F, out-Form}
 use Rattle.mc_catalog.specs.declared.catalog.Catalog.{Catalog}
+use Rattle.mc_coerce.specs.declared.operand.Operand.{Operand}
+use Rattle.mc_values.specs.declared.value.Value.{Value}
 use Rattle.mc_typing.specs.declared.callee.Callee.{Callee}
-use Rattle.mc_typing.specs.declared.callee.Callee.TheVariants.{Of}
+use Rattle.mc_typing.specs.declared.callee.Callee.TheVariants as callee
+use Rattle.mc_typing.specs.declared.place.Place.{Place}
+use Rattle.mc_typing.specs.declared.place.Place.TheVariants.{Row, Group, Key}
 use Rattle.mc_typing.specs.declared.scope.Scope.{Scope}
-use Rattle.mc_typing.specs.declared.typed.Func.TheVariants.{Substring}
-use Rattle.mc_typing.specs.declared.typed.Node.{Node-F}
+use Rattle.mc_typing.specs.declared.typed.AggName.{AggName}
+use Rattle.mc_typing.specs.declared.typed.AggName.TheVariants.{Count, Min, Max, Sum}
+use Rattle.mc_typing.specs.declared.typed.Node.{Node, Node-F, out-Node}
 use Rattle.mc_typing.specs.declared.typed.Node.TheVariants as node
 use Rattle.mc_typing.specs.declared.typed.Ty.{Ty}
+use Rattle.mc_typing.specs.declared.typed.Ty.TheVariants.{Int}
 use Rattle.mc_typing.specs.declared.typed.TypedExpr.{TypedExpr}
-use Rattle.mc_typing.specs.Calls.{call, function_call, weights}
-use Rattle.mc_typing.specs.Exprs.{Typing, operands, option_before, parts, plain, texts, typing}
-use Rattle.mc_typing.specs.Exprs.{typing_node, usual_id}
-use Rattle.mc_typing.specs.Functions.{callee_of, trim_of}
+use Rattle.mc_typing.specs.AggregateTypes.{aggregate_types, is_aggregate_node, types_with}
+use Rattle.mc_typing.specs.Aggregates.{aggregate_count, aggregate_expr, aggregate_of}
+use Rattle.mc_typing.specs.Aggregates.{aggregate_ty, count_all, form_count, is_aggregate}
+use Rattle.mc_typing.specs.Aggregates.{is_aggregate_form, is_constant, shows_type, total, unfit}
+use Rattle.mc_typing.specs.Calls.{call, first_operand, shown}
+use Rattle.mc_typing.specs.Exprs.{Typing, before, operands, operands_from, taker_of, turned}
+use Rattle.mc_typing.specs.Exprs.{plain, typed_node, typing, typings}
+use Rattle.mc_typing.specs.Forms.{parts}
+use Rattle.mc_typing.specs.Functions.{callee_of, takes, turns_to_text}
 use Rattle.mc_typing.specs.Messages.{wrong_argument}
-use Rattle.mc_typing.specs.Names.{arith_name, cmp_name}
-use Rattle.mc_typing.specs.Operators.{as_text, collated, compared, converted, converted_by_name}
-use Rattle.mc_typing.specs.Operators.{like, number_expr, of_numbers, of_one_number}
-use Rattle.mc_typing.specs.Scope.{IsScope, connection_set}
 use Rattle.mc_typing.specs.Operands.{IsTyOf}
-use Rattle.mc_typing.specs.Sound.{AreTextual, IsSound}
+use Rattle.mc_typing.specs.Parts.{node_parts}
+use Rattle.mc_typing.specs.Places.{place_at, place_below}
+use Rattle.mc_typing.specs.Scope.{IsScope}
+use Rattle.mc_typing.specs.Sound.{IsAggregateTy, IsDistinctIn}
 use Rattle.mc_typing.specs.SoundStatements.{row_types}
+use Rattle.mc_typing.proofs.Built.{IsOver, const_over, is_and_form, node_built, text_types}
 use Rattle.mc_typing.proofs.Known.{Known}
-use Rattle.mc_typing.proofs.SoundCalls.{function_sound, named_sound, trim_sound}
-use Rattle.mc_typing.proofs.SoundColumns.{column_of_table_sound, column_sound}
-use Rattle.mc_typing.proofs.SoundOperands.{AreTurned, Operands, as_text_sound, operands_sound, then}
-use Rattle.mc_typing.proofs.SoundOperators.{collated_sound, compared_sound, converted_by_name_sound}
-use Rattle.mc_typing.proofs.SoundOperators.{like_sound, number_sound, of_numbers_sound}
-use Rattle.mc_typing.proofs.SoundOperators.{of_one_sound, to_binary_sound, to_connection_sound}
-use Rattle.mc_typing.proofs.SoundOperators.{weights_sound}
-use Rattle.mc_typing.proofs.SoundTexts.{hex_sound, int_sound, introduced_good, national_sound}
-use Rattle.mc_typing.proofs.SoundTexts.{null_sound, plain_sound}
-use Rattle.mc_typing.proofs.SoundTrees.{IsFine}
+use Rattle.mc_typing.proofs.SoundCalls.{eq_to}
+use Rattle.mc_typing.proofs.SoundNodes.{node_good}
+use Rattle.mc_typing.proofs.SoundOperands.{Operands, each, either, numeric_ty, then, turned_cons}
+use Rattle.mc_typing.proofs.SoundOperands.{turned_sound}
+use Rattle.mc_typing.proofs.SoundTexts.{shown_sound}
+use Rattle.mc_typing.proofs.SoundTrees.{IsFine, fine_made}
+use Rattle.mc_typing.proofs.Trees.{count_is, expr_induction, typing_is}
+use Rattle.mc_typing.proofs.Ungrouped.{aggregate_types_is}
 
--- Operands that are all taken for texts are texts.
-all_texts : (xs : List TypedExpr) → AreTurned texts 0 xs → AreTextual xs
-all_texts xs h k d lt = h k d lt refl
+-- From a number on, the members of a list are these.
+abbrev pub HasFrom : List Ty → ℕ → List Ty → Type 0
+HasFrom all n [] = Unit {0}
+HasFrom all n (ty ∷ types) = (slice_get all n ≡ Some ty) × HasFrom all (n + 1) types
 
-one_of_two : (n many : ℕ) → n ≡ many → (nat_le 1 many && nat_le many 2) ≡ true
-    → (nat_le 1 n && nat_le n 2) ≡ true
-one_of_two n many e h = subst (λ m. (nat_le 1 m && nat_le m 2) ≡ true) (sym e) h
+pub from_front : (all : List Ty) (n : ℕ) (types others : List Ty)
+    → HasFrom all n (types ++ others) → HasFrom all n types
+from_front all n [] others h = tt
+from_front all n (ty ∷ types) others h = (h.0, from_front all (n + 1) types others h.1)
 
-two_of_three : (n many : ℕ) → n ≡ many → (nat_le 2 many && nat_le many 3) ≡ true
-    → (nat_le 2 n && nat_le n 3) ≡ true
-two_of_three n many e h = subst (λ m. (nat_le 2 m && nat_le m 3) ≡ true) (sym e) h
+pub from_behind : (all : List Ty) (n : ℕ) (types others : List Ty)
+    → HasFrom all n (types ++ others) → HasFrom all (n + length types) others
+from_behind all n [] others h =
+    let same : n ≡ n + 0 = omega arith in subst (λ m. HasFrom all m others) same h
+from_behind all n (ty ∷ types) others h =
+    let same : (n + 1) + length types ≡ n + suc (length types) = omega arith in
+    subst (λ m. HasFrom all m others) same (from_behind all (n + 1) types others h.1)
 
-module _ (known : Known) (c : Catalog) (s : Scope) (scope : IsScope c s)
-    (aggregates : List Ty) where
-  abbrev Sound : TypedExpr → Type 0
-  Sound x = IsFine c (row_types c s.table) aggregates x
+member_at : (front : List Ty) (ty : Ty) (types : List Ty)
+    → slice_get (front ++ ty ∷ types) (length front) ≡ Some ty
+member_at [] ty types = refl
+member_at (t ∷ front) ty types = member_at front ty types
 
-  abbrev Good : Typing → Type 0
-  Good t = IfOk t Sound
+pub has_own : (front types : List Ty) → HasFrom (front ++ types) (length front) types
+has_own front [] = tt
+has_own front (ty ∷ types) = (
+  member_at front ty types,
+  subst (λ n. HasFrom (front ++ ty ∷ types) n types) (length-append front (ty ∷ []))
+      (subst (λ all. HasFrom all (length (front ++ ty ∷ [])) types)
+      (append_assoc front (ty ∷ []) types) (has_own (front ++ ty ∷ []) types)),
+)
 
-  -- What comes of operands is sound where it is for each list of them that typing may give.
-  with_operands : (callee : Option Callee) (ts : List Typing) (f : List TypedExpr → Typing)
-      → AllByRecursion Good ts
-      → ((xs : List TypedExpr) → Operands c s scope aggregates callee 0 (length ts) xs
-      → Good (f xs))
-      → Good (result_and_then f (operands c s callee ts))
-  with_operands callee ts f h k = then (Operands c s scope aggregates callee 0 (length ts)) Sound
-      (operands c s callee ts) f (operands_sound c s scope aggregates callee 0 ts h) k
+-- Aggregates that no list has so far
+abbrev pub padding : ℕ → List Ty
+padding zero = []
+padding (suc n) = Int ∷ padding n
 
-  with_one : (t : Typing) (f : TypedExpr → Typing) → Good t
-      → ((x : TypedExpr) → Sound x → Good (f x))
-      → Good (result_and_then f t)
-  with_one t f h k = then Sound Sound t f h k
+pub padded : (n : ℕ) → length (padding n) ≡ n
+padded zero = refl
+padded (suc n) = ap suc (padded n)
 
-  trim_node : (removed : Option Typing) (t : Typing) (side : TrimSide)
-      → AllByRecursion Good (option_before removed (t ∷ []))
-      → Good (result_and_then
-      (λ xs. function_call c s (trim_of side) (codes "trim") xs)
-      (operands c s texts (option_before removed (t ∷ []))))
-  trim_node None t side h = with_operands texts (t ∷ [])
-      (λ xs. function_call c s (trim_of side) (codes "trim") xs) h
-      (λ xs o. trim_sound known c s scope aggregates side (codes "trim") xs o.0 (all_texts xs o.1)
-      (one_of_two (length xs) 1 o.2 refl))
-  trim_node (Some removed) t side h = with_operands texts (removed ∷ t ∷ [])
-      (λ xs. function_call c s (trim_of side) (codes "trim") xs) h
-      (λ xs o. trim_sound known c s scope aggregates side (codes "trim") xs o.0 (all_texts xs o.1)
-      (one_of_two (length xs) 2 o.2 refl))
+const_types : (v : Value) (ty : Ty) → aggregate_types (record { node = node.Const v; ty = ty }) ≡ []
+const_types v ty = (const_over v ty).types
 
-  substring_node : (t start : Typing) (len : Option Typing)
-      → AllByRecursion Good (t ∷ start ∷ option_before len [])
-      → Good (result_and_then
-      (λ xs. function_call c s Substring (codes "substring") xs)
-      (operands c s (Some (Of Substring)) (t ∷ start ∷ option_before len [])))
-  substring_node t start None h = with_operands (Some (Of Substring)) (t ∷ start ∷ [])
-      (λ xs. function_call c s Substring (codes "substring") xs) h
-      (λ xs o. function_sound known c s scope aggregates Substring (codes "substring") xs o.0 o.1
-      (two_of_three (length xs) 2 o.2 refl))
-  substring_node t start (Some len) h = with_operands (Some (Of Substring)) (t ∷ start ∷ len ∷ [])
-      (λ xs. function_call c s Substring (codes "substring") xs) h
-      (λ xs o. function_sound known c s scope aggregates Substring (codes "substring") xs o.0 o.1
-      (two_of_three (length xs) 3 o.2 refl))
+own_types : (n : Node) (l : Node-F Node TypedExpr) (ty : Ty) → out-Node n ≡ l
+    → is_aggregate_node l ≡ true
+    → aggregate_types (record { node = n; ty = ty })
+    ≡ flat_map aggregate_types (node_parts l) ++ ty ∷ []
+own_types n l ty e h = aggregate_types_is (record { node = n; ty = ty })
+    ∙ (ap (λ (m : Node-F Node TypedExpr).
+    types_with (is_aggregate_node m) (flat_map aggregate_types (node_parts m)) ty) e
+    ∙ ap (λ b. types_with b (flat_map aggregate_types (node_parts l)) ty) h)
 
-  -- A node over what comes of typing its operands
-  node_good : {X : Type 0} (l : Form-F X Typing) → AllByRecursion Good (parts l)
-      → Good (typing_node c s l)
-  node_good (Form-F.Or ts) h = with_operands plain ts
-      (λ xs. of_numbers (codes "or") (node.Or xs) xs) h
-      (λ xs o. of_numbers_sound known c s scope aggregates (codes "or") (node.Or xs) xs (λ numbers.
-      number_sound known c s scope aggregates (Node-F.Or xs) (node.Or xs) (node.rolls-Or xs)
-      (refl, numbers) o.0))
-  node_good (Form-F.And ts) h = with_operands plain ts
-      (λ xs. of_numbers (codes "and") (node.And xs) xs) h
-      (λ xs o. of_numbers_sound known c s scope aggregates (codes "and") (node.And xs) xs
-      (λ numbers.
-      number_sound known c s scope aggregates (Node-F.And xs) (node.And xs) (node.rolls-And xs)
-      (refl, numbers) o.0))
-  node_good (Form-F.Xor l r) h = with_operands plain (l ∷ r ∷ [])
-      (λ xs. of_numbers (codes "xor") (node.Xor xs) xs) h
-      (λ xs o. of_numbers_sound known c s scope aggregates (codes "xor") (node.Xor xs) xs
-      (λ numbers.
-      number_sound known c s scope aggregates (Node-F.Xor xs) (node.Xor xs) (node.rolls-Xor xs)
-      (refl, o.2, numbers) o.0))
-  node_good (Form-F.Not t) h = with_one t
-      (λ x. of_one_number (codes "not") (node.Not x) x) h.0
-      (λ x k. of_one_sound known c s scope aggregates (codes "not") (node.Not x) x (λ number.
-      number_sound known c s scope aggregates (Node-F.Not x) (node.Not x) (node.rolls-Not x)
-      (refl, number) (k, tt)))
-  node_good (Form-F.Compare op l r) h = with_operands plain (l ∷ r ∷ [])
-      (λ xs. compared c (cmp_name op) (λ coll. node.Compare op coll xs) xs) h
-      (λ xs o. compared_sound known c s scope aggregates (cmp_name op)
-      (λ coll. node.Compare op coll xs) xs o.0
-      (λ coll k. number_sound known c s scope aggregates (Node-F.Compare op coll xs)
-      (node.Compare op coll xs) (node.rolls-Compare op coll xs) (refl, o.2, k) o.0))
-  node_good (Form-F.IsNull t negated) h = with_one t
-      (λ x. Ok (number_expr (node.IsNull x negated))) h.0
-      (λ x k. number_sound known c s scope aggregates (Node-F.IsNull x negated)
-      (node.IsNull x negated) (node.rolls-IsNull x negated) refl (k, tt))
-  node_good (Form-F.Like l r escape negated) h = with_operands texts (l ∷ r ∷ [])
-      (λ xs. like c escape negated xs) h
-      (λ xs o. like_sound known c s scope aggregates escape negated xs o.0 (all_texts xs o.1) o.2)
-  node_good (Form-F.In t ts negated) h = with_operands plain (t ∷ ts)
-      (λ xs. compared c (codes "in") (λ coll. node.In coll xs negated) xs) h
-      (λ xs o. compared_sound known c s scope aggregates (codes "in")
-      (λ coll. node.In coll xs negated) xs o.0
-      (λ coll k. number_sound known c s scope aggregates (Node-F.In coll xs negated)
-      (node.In coll xs negated) (node.rolls-In coll xs negated) (refl, omega (arith, o.2), k) o.0))
-  node_good (Form-F.Between t low high negated) h = with_operands plain (t ∷ low ∷ high ∷ [])
-      (λ xs. compared c (codes "between") (λ coll. node.Between coll xs negated) xs) h
-      (λ xs o. compared_sound known c s scope aggregates (codes "between")
-      (λ coll. node.Between coll xs negated) xs o.0
-      (λ coll k. number_sound known c s scope aggregates (Node-F.Between coll xs negated)
-      (node.Between coll xs negated) (node.rolls-Between coll xs negated) (refl, o.2, k) o.0))
-  node_good (Form-F.Arith op l r) h = with_operands plain (l ∷ r ∷ [])
-      (λ xs. of_numbers (arith_name op) (node.Arith op xs) xs) h
-      (λ xs o. of_numbers_sound known c s scope aggregates (arith_name op) (node.Arith op xs) xs
-      (λ numbers. number_sound known c s scope aggregates (Node-F.Arith op xs)
-      (node.Arith op xs) (node.rolls-Arith op xs)
-      (refl, o.2, numbers) o.0))
-  node_good (Form-F.Neg t) h = with_one t (λ x. of_one_number (codes "-") (node.Neg x) x) h.0
-      (λ x k. of_one_sound known c s scope aggregates (codes "-") (node.Neg x) x (λ number.
-      number_sound known c s scope aggregates (Node-F.Neg x) (node.Neg x) (node.rolls-Neg x)
-      (refl, number) (k, tt)))
-  node_good (Form-F.Collate t name) h = with_one t (λ x. collated c name (as_text c s x)) h.0
-      (λ x k. let text = as_text_sound c s scope aggregates x k in
-      collated_sound known c s scope aggregates name (as_text c s x) text.0 text.1)
-  node_good (Form-F.Int number) h = int_sound known c s scope aggregates number
-  node_good Form-F.True h = int_sound known c s scope aggregates (pos 1)
-  node_good Form-F.False h = int_sound known c s scope aggregates (pos 0)
-  node_good Form-F.Null h = null_sound known c s scope aggregates
-  node_good (Form-F.Str text) h = plain_sound known c s scope aggregates text
-  node_good (Form-F.National text) h = national_sound known c s scope aggregates text
-  node_good (Form-F.Hex bytes) h = hex_sound known c s scope aggregates bytes
-  node_good (Form-F.IntroStr set bytes) h = introduced_good known c s scope aggregates set bytes
-  node_good (Form-F.IntroHex set bytes) h = introduced_good known c s scope aggregates set bytes
-  node_good (Form-F.Name name) h = column_sound c s scope aggregates name
-  node_good (Form-F.Qualified table name) h = column_of_table_sound c s scope aggregates table name
-  node_good (Form-F.Convert t set) h = with_one t
-      (λ x. converted_by_name c (usual_id c) set (as_text c s x)) h.0
-      (λ x k. let text = as_text_sound c s scope aggregates x k in
-      converted_by_name_sound known c s scope aggregates set (as_text c s x) text.0 text.1)
-  node_good (Form-F.CastChar t (Some set)) h = with_one t
-      (λ x. converted_by_name c (usual_id c) set (as_text c s x)) h.0
-      (λ x k. let text = as_text_sound c s scope aggregates x k in
-      converted_by_name_sound known c s scope aggregates set (as_text c s x) text.0 text.1)
-  node_good (Form-F.CastChar t None) h = with_one t
-      (λ x. Ok (converted (connection_set c s) s.connection (as_text c s x))) h.0
-      (λ x k. let text = as_text_sound c s scope aggregates x k in
-      to_connection_sound known c s scope aggregates (as_text c s x) text.0 text.1)
-  node_good (Form-F.CastBinary t) h = with_one t
-      (λ x. Ok (converted SetBinary (record { 0 = 0 }) (as_text c s x))) h.0
-      (λ x k. let text = as_text_sound c s scope aggregates x k in
-      to_binary_sound known c s scope aggregates (as_text c s x) text.0 text.1)
-  node_good Form-F.CountAll h = tt
-  node_good (Form-F.CountDistinct t) h =
-      with_one t (λ x. Err (wrong_argument (codes "count"))) h.0 (λ x k. tt)
-  node_good (Form-F.Trim side removed t) h = trim_node removed t side h
-  node_good (Form-F.SubstringFrom t start len) h = substring_node t start len h
-  node_good (Form-F.WeightString t cut) h = with_one t (λ x. weights cut x) h.0
-      (λ x k. weights_sound known c s scope aggregates cut x k)
-  node_good (Form-F.Call name ts) h = with_operands (callee_of name) ts
-      (λ xs. call c s name (callee_of name) xs) h
-      (λ xs o. named_sound known c s scope aggregates name (callee_of name) xs o.0 o.1)
+turned_types : (c : Catalog) (s : Scope) (b : Bool) (x : TypedExpr)
+    → aggregate_types (turned c s b x) ≡ aggregate_types x
+turned_types c s true x = text_types c s x
+turned_types c s false x = refl
 
-  -- By induction over the tree
-  abbrev typing_form : Form → Typing
-  typing_form f = fold-Form Typing Typing (typing_node c s) (λ e. e.form) f
+module _ (known : Known) (c : Catalog) (s : Scope) (scope : IsScope c s) where
+  abbrev pub Fine : List Ty → TypedExpr → Type 0
+  Fine aggregates x = IsFine c (row_types c s.table) aggregates x
 
-  abbrev GoodForm : Form → Type 0
-  GoodForm f = Good (typing_form f)
+  -- Typed at a place and from a number on, with so many aggregates: in a row there are none, and
+  -- the expression is sound where they have their types.
+  pub record IsWell (place : Place) (number count : ℕ) (x : TypedExpr) : Type 0 where
+    pub many : length (aggregate_types x) ≡ count
+    pub row : place ≡ Row → aggregate_types x ≡ []
+    pub sound : (aggregates : List Ty) → HasFrom aggregates number (aggregate_types x)
+        → Fine aggregates x
 
-  abbrev typing_expr : Expr → Typing
-  typing_expr e = fold-Expr Typing Typing (typing_node c s) (λ d. d.form) e
+  -- The same of operands
+  pub record AreWell (place : Place) (number count : ℕ) (taker : Option Callee) (from size : ℕ)
+      (xs : List TypedExpr) : Type 0 where
+    pub many : length (flat_map aggregate_types xs) ≡ count
+    pub row : place ≡ Row → flat_map aggregate_types xs ≡ []
+    pub as_many : length xs ≡ size
+    pub sound : (aggregates : List Ty)
+        → HasFrom aggregates number (flat_map aggregate_types xs)
+        → Operands c s scope aggregates taker from size xs
 
-  abbrev GoodExpr : Expr → Type 0
-  GoodExpr e = Good (typing_expr e)
+  -- Operands
+  module _ (groups : List Expr) (place : Place) where
+    abbrev IsTyped : Expr → Type 0
+    IsTyped e = (number : ℕ)
+        → IfOk (typing c s groups place number e) (IsWell place number (aggregate_count e))
 
-  abbrev typed_layer : Form-F Form Expr → Form-F Typing Typing
-  typed_layer x = map-Form Form Expr Typing Typing typing_form typing_expr x
+    joined : (taker : Option Callee) (from number count others size : ℕ) (x : TypedExpr)
+        (xs : List TypedExpr) → IsWell place number count x
+        → AreWell place (number + count) others taker (from + 1) size xs
+        → AreWell place number (count + others) taker from (suc size)
+        (turned c s (turns_to_text taker from) x ∷ xs)
+    joined taker from number count others size x xs own rest =
+        let y : TypedExpr = turned c s (turns_to_text taker from) x in
+        let more : List Ty = flat_map aggregate_types xs in
+        let same : aggregate_types y ≡ aggregate_types x =
+        turned_types c s (turns_to_text taker from) x in
+        let many : length (aggregate_types y) ≡ count = ap (λ l. length l) same ∙ own.many in
+        record {
+          many = length-append (aggregate_types y) more
+              ∙ (ap (λ n. n + length more) many ∙ ap (λ n. count + n) rest.many);
+          row = λ p. ap (λ l. l ++ more) (same ∙ own.row p) ∙ rest.row p;
+          as_many = ap suc rest.as_many;
+          sound = λ all h.
+              let fine : Fine all x = own.sound all
+              (subst (HasFrom all number) same
+              (from_front all number (aggregate_types y) more h)) in
+              let o = rest.sound all (subst (λ n. HasFrom all (number + n) more) many
+              (from_behind all number (aggregate_types y) more h)) in
+              let made = turned_sound c s scope all (turns_to_text taker from) x fine in (
+                (made.0, o.0),
+                turned_cons taker from y xs made.1 o.1,
+                ap suc o.2,
+              );
+        }
 
-  -- A form and an expression, each with what is shown of it.
-  abbrev FormHeld : Type 0
-  FormHeld = (f : Form) × GoodForm f
+    pub operands_well : (taker : Option Callee) (from number : ℕ) (es : List Expr)
+        → AllByRecursion IsTyped es
+        → IfOk (operands_from c s taker from (typings c s groups place number es))
+        (AreWell place number (total aggregate_count es) taker from (length es))
+    operands_well taker from number [] h = record {
+      many = refl;
+      row = λ p. refl;
+      as_many = refl;
+      sound = λ all k. (tt, (λ n d lt e. absurd (omega (arith, lt))), refl);
+    }
+    operands_well taker from number (e ∷ es) h =
+        let count = aggregate_count e in
+        let others = total aggregate_count es in
+        let rest = operands_from c s taker (from + 1)
+        (typings c s groups place (number + count) es) in
+        then (IsWell place number count)
+        (AreWell place number (count + others) taker from (suc (length es)))
+        (typing c s groups place number e)
+        (λ x. before (turned c s (turns_to_text taker from) x) rest) (h.0 number)
+        (λ x own. then (AreWell place (number + count) others taker (from + 1) (length es))
+        (AreWell place number (count + others) taker from (suc (length es))) rest
+        (λ xs. Ok (turned c s (turns_to_text taker from) x ∷ xs))
+        (operands_well taker (from + 1) (number + count) es h.1)
+        (λ xs more. joined taker from number count others (length es) x xs own more))
 
-  abbrev ExprHeld : Type 0
-  ExprHeld = (e : Expr) × GoodExpr e
+  -- A node that is neither a constant nor an aggregate
+  plain_well : (place below : Place) (number count size : ℕ) (taker : Option Callee) (b : Bool)
+      (xs : List TypedExpr) (t : Typing) → (place ≡ Row → below ≡ Row)
+      → AreWell below number count taker 0 size xs → IfOk t (IsOver b xs)
+      → ((all : List Ty) → Operands c s scope all taker 0 size xs → IfOk t (Fine all))
+      → IfOk t (IsWell place number count)
+  plain_well place below number count size taker b xs (Err r) p w o g = tt
+  plain_well place below number count size taker b xs (Ok x) p w o g = record {
+    many = ap (λ l. length l) o.types ∙ w.many;
+    row = λ e. o.types ∙ w.row (p e);
+    sound = λ all h. g all (w.sound all (subst (HasFrom all number) o.types h));
+  }
 
-  abbrev Held : Type 0
-  Held = Form-F FormHeld ExprHeld
+  -- A constant
+  const_well : (place : Place) (number : ℕ) (which : Callee) (a : Operand)
+      → IsWell place number 0 (shown c which a)
+  const_well place number which a = record {
+    many = ap (λ l. length l) (none which);
+    row = λ p. none which;
+    sound = λ all h. shown_sound known c s scope all which a;
+  }
+    where
+      none : (which : Callee) → aggregate_types (shown c which a) ≡ []
+      none callee.Charset = const_types _ _
+      none callee.Collation = const_types _ _
+      none which = const_types _ _
 
-  abbrev without : Held → Form-F Form Expr
-  without y = map-Form FormHeld ExprHeld Form Expr (λ e. e.0) (λ e. e.0) y
+  shown_well : (place at : Place) (number own : ℕ) (name : List ℕ) (which : Option Callee)
+      (xs : List TypedExpr) → shows_type which ≡ true
+      → IfOk (call c s at own name which xs) (IsWell place number 0)
+  shown_well place at number own name None xs e = tt
+  shown_well place at number own name (Some callee.Charset) xs e =
+      either (IsWell place number 0) (takes callee.Charset (length xs)) _ _
+      (λ _. const_well place number callee.Charset (first_operand c s xs)) (λ _. tt)
+  shown_well place at number own name (Some callee.Collation) xs e =
+      either (IsWell place number 0) (takes callee.Collation (length xs)) _ _
+      (λ _. const_well place number callee.Collation (first_operand c s xs)) (λ _. tt)
+  shown_well place at number own name (Some callee.Coercibility) xs e =
+      either (IsWell place number 0) (takes callee.Coercibility (length xs)) _ _
+      (λ _. const_well place number callee.Coercibility (first_operand c s xs)) (λ _. tt)
+  shown_well place at number own name (Some (callee.Of function)) xs e = absurd (cc)
+  shown_well place at number own name (Some callee.Version) xs e = absurd (cc)
+  shown_well place at number own name (Some callee.Weights) xs e = absurd (cc)
+  shown_well place at number own name (Some (callee.Aggregate which)) xs e = absurd (cc)
 
-  list_good : (es : List ExprHeld)
-      → AllByRecursion Good (map typing_expr (map (λ e. e.0) es))
-  list_good [] = tt
-  list_good (e ∷ es) = (e.1, list_good es)
+  constant_well : {X A : Type 0} (place at : Place) (number own : ℕ) (z : Form-F X A)
+      (xs : List TypedExpr) → is_constant z ≡ true
+      → IfOk (typed_node c s at own z xs) (IsWell place number 0)
+  constant_well place at number own (Form-F.Call name ts) xs e =
+      shown_well place at number own name (callee_of name) xs e
+  constant_well place at number own _ xs e = absurd (cc)
 
-  parts_good : (y : Held) → AllByRecursion Good (parts (typed_layer (without y)))
-  parts_good (Form-F.Or ts) = list_good ts
-  parts_good (Form-F.And ts) = list_good ts
-  parts_good (Form-F.Xor l r) = (l.1, (r.1, tt))
-  parts_good (Form-F.Not t) = (t.1, tt)
-  parts_good (Form-F.Compare op l r) = (l.1, (r.1, tt))
-  parts_good (Form-F.IsNull t negated) = (t.1, tt)
-  parts_good (Form-F.Like l r escape negated) = (l.1, (r.1, tt))
-  parts_good (Form-F.In t ts negated) = (t.1, list_good ts)
-  parts_good (Form-F.Between t low high negated) = (t.1, (low.1, (high.1, tt)))
-  parts_good (Form-F.Arith op l r) = (l.1, (r.1, tt))
-  parts_good (Form-F.Neg t) = (t.1, tt)
-  parts_good (Form-F.Collate t name) = (t.1, tt)
-  parts_good (Form-F.Int number) = tt
-  parts_good Form-F.True = tt
-  parts_good Form-F.False = tt
-  parts_good Form-F.Null = tt
-  parts_good (Form-F.Str text) = tt
-  parts_good (Form-F.National text) = tt
-  parts_good (Form-F.Hex bytes) = tt
-  parts_good (Form-F.IntroStr set bytes) = tt
-  parts_good (Form-F.IntroHex set bytes) = tt
-  parts_good (Form-F.Name name) = tt
-  parts_good (Form-F.Qualified table name) = tt
-  parts_good (Form-F.Convert t set) = (t.1, tt)
-  parts_good (Form-F.CastChar t set) = (t.1, tt)
-  parts_good (Form-F.CastBinary t) = (t.1, tt)
-  parts_good Form-F.CountAll = tt
-  parts_good (Form-F.CountDistinct t) = (t.1, tt)
-  parts_good (Form-F.Trim side None t) = (t.1, tt)
-  parts_good (Form-F.Trim side (Some removed) t) = (removed.1, (t.1, tt))
-  parts_good (Form-F.SubstringFrom t start None) = (t.1, (start.1, tt))
-  parts_good (Form-F.SubstringFrom t start (Some len)) = (t.1, (start.1, (len.1, tt)))
-  parts_good (Form-F.WeightString t cut) = (t.1, tt)
-  parts_good (Form-F.Call name ts) = list_good ts
+  -- An aggregate
+  count_well : (place : Place) (number own : ℕ) → own ≡ number → (place ≡ Row → ⊥)
+      → IsWell place number 1
+      (record { node = node.Aggregate Count false None own; ty = Int })
+  count_well place number own e away =
+      let types = own_types (node.Aggregate Count false None own)
+      (Node-F.Aggregate Count false None own) Int (node.outs-Aggregate Count false None own) refl in
+      record {
+        many = ap (λ l. length l) types;
+        row = λ p. absurd (away p);
+        sound = λ all h.
+            let at : HasFrom all number (Int ∷ []) = subst (HasFrom all number) types h in
+            subst (λ (n : Node). Fine all (record { node = n; ty = Int }))
+            (node.rolls-Aggregate Count false None own)
+            (fine_made c (row_types c s.table) all (Node-F.Aggregate Count false None own) Int tt
+            (subst (λ n. slice_get all n ≡ Some Int) (sym e) at.0, refl) tt);
+      }
 
-  form_step : (x : Form-F Form Expr) (y : Held) → without y ≡ x → GoodForm (roll-Form x)
-  form_step x y is = subst Good
-      (sym (fold-roll-Form Typing Typing (typing_node c s) (λ e. e.form) x))
-      (node_good (typed_layer x)
-      (subst (λ (z : Form-F Form Expr). AllByRecursion Good (parts (typed_layer z))) is
-      (parts_good y)))
+  aggregate_type : (name : AggName) (ty : Ty) → unfit name ty ≡ false
+      → IsAggregateTy name ty (aggregate_ty name ty)
+  aggregate_type Count ty e = refl
+  aggregate_type Sum ty e = (numeric_ty ty e, refl)
+  aggregate_type Min ty e = refl
+  aggregate_type Max ty e = refl
 
-  abbrev HeldExpr : Type 0
-  HeldExpr = Expr-F FormHeld ExprHeld
+  aggregate_typed : (name : AggName) (ty : Ty) → IsTyOf c ty → IsTyOf c (aggregate_ty name ty)
+  aggregate_typed Count ty h = tt
+  aggregate_typed Sum ty h = tt
+  aggregate_typed Min ty h = h
+  aggregate_typed Max ty h = h
 
-  expr_step : (x : Expr-F Form Expr) (y : HeldExpr)
-      → map-Expr FormHeld ExprHeld Form Expr (λ e. e.0) (λ e. e.0) y ≡ x
-      → GoodExpr (roll-Expr x)
-  expr_step x y is = subst Good
-      (sym (fold-roll-Expr Typing Typing (typing_node c s) (λ e. e.form) x))
-      (subst (λ (z : Expr-F Form Expr). GoodForm z.form) is y.form.1)
+  -- Over an argument without aggregates
+  made_well : (place : Place) (number own count size : ℕ) (taker : Option Callee) (name : AggName)
+      (distinct : Bool) (x : TypedExpr) → own ≡ number + count → (place ≡ Row → ⊥)
+      → IsDistinctIn name distinct → unfit name x.ty ≡ false
+      → AreWell Row number count taker 0 size (x ∷ [])
+      → IsWell place number (count + 1) (aggregate_expr own name distinct x)
+  made_well place number own count size taker name distinct x e away once fit w =
+      let ty : Ty = aggregate_ty name x.ty in
+      let none : aggregate_types x ++ [] ≡ [] = w.row refl in
+      let no : aggregate_types x ≡ [] = sym (append-nil (aggregate_types x)) ∙ none in
+      let zero_count : 0 ≡ count = sym (ap (λ (l : List Ty). length l) none) ∙ w.many in
+      let first : number ≡ own =
+      omega (arith, e, zero_count) in
+      let types : aggregate_types (aggregate_expr own name distinct x) ≡ ty ∷ [] =
+      own_types (node.Aggregate name distinct (Some x) own)
+      (Node-F.Aggregate name distinct (Some x) own) ty
+      (node.outs-Aggregate name distinct (Some x) own) refl ∙ ap (λ l. l ++ ty ∷ []) none in
+      record {
+        many = ap (λ l. length l) types ∙ ap (λ n. n + 1) zero_count;
+        row = λ p. absurd (away p);
+        sound = λ all h.
+            let at : HasFrom all number (ty ∷ []) = subst (HasFrom all number) types h in
+            let fine : Fine all x =
+            (w.sound all (subst (HasFrom all number) (sym none) tt)).0.0 in
+            subst (λ (n : Node). Fine all (record { node = n; ty = ty }))
+            (node.rolls-Aggregate name distinct (Some x) own)
+            (fine_made c (row_types c s.table) all (Node-F.Aggregate name distinct (Some x) own) ty
+            (aggregate_typed name x.ty fine.0) (
+              subst (λ n. slice_get all n ≡ Some ty) first at.0,
+              (aggregate_type name x.ty fit, once, no),
+            ) (fine, tt));
+      }
 
-  pub typing_good : (e : Expr) → IfOk (typing c s e) Sound
-  unfolding typing
-  typing_good e = ind-Expr GoodForm GoodExpr form_step expr_step e
+  aggregate_well : (place : Place) (number own count size : ℕ) (taker : Option Callee)
+      (op : List ℕ) (name : AggName) (distinct : Bool) (x : TypedExpr) → own ≡ number + count
+      → IsDistinctIn name distinct → AreWell Row number count taker 0 size (x ∷ [])
+      → IfOk (aggregate_of place own op name distinct x) (IsWell place number (count + 1))
+  aggregate_well Row number own count size taker op name distinct x e once w = tt
+  aggregate_well Group number own count size taker op name distinct x e once w =
+      either (IsWell Group number (count + 1)) (unfit name x.ty) (Err (wrong_argument op))
+      (Ok (aggregate_expr own name distinct x)) (λ _. tt)
+      (λ fit. made_well Group number own count size taker name distinct x e (λ p. cc) once fit w)
+  aggregate_well Key number own count size taker op name distinct x e once w =
+      either (IsWell Key number (count + 1)) (unfit name x.ty) (Err (wrong_argument op))
+      (Ok (aggregate_expr own name distinct x)) (λ _. tt)
+      (λ fit. made_well Key number own count size taker name distinct x e (λ p. cc) once fit w)
+
+  -- Called by its name
+  call_well : (place : Place) (number own count size : ℕ) (taker : Option Callee)
+      (name : List ℕ) (which : Option Callee) (xs : List TypedExpr) → own ≡ number + count
+      → is_aggregate which ≡ true → AreWell Row number count taker 0 size xs
+      → IfOk (call c s place own name which xs) (IsWell place number (count + 1))
+  call_well place number own count size taker name None xs e a w = tt
+  call_well place number own count size taker name (Some (callee.Aggregate agg)) [] e a w = tt
+  call_well place number own count size taker name (Some (callee.Aggregate agg)) (x ∷ []) e a w =
+      aggregate_well place number own count size taker name agg false x e (once agg) w
+    where
+      once : (agg : AggName) → IsDistinctIn agg false
+      once Count = tt
+      once Min = tt
+      once Max = tt
+      once Sum = tt
+  call_well place number own count size taker name (Some (callee.Aggregate agg)) (x ∷ y ∷ xs)
+      e a w =
+      either (IsWell place number (count + 1))
+      (takes (callee.Aggregate agg) (length (x ∷ y ∷ xs))) _ _
+      (λ many. absurd (omega (arith, eq_to (length (x ∷ y ∷ xs)) 1 many))) (λ _. tt)
+  call_well place number own count size taker name (Some (callee.Of function)) xs e a w =
+      absurd (cc)
+  call_well place number own count size taker name (Some callee.Charset) xs e a w = absurd (cc)
+  call_well place number own count size taker name (Some callee.Collation) xs e a w = absurd (cc)
+  call_well place number own count size taker name (Some callee.Coercibility) xs e a w = absurd (cc)
+  call_well place number own count size taker name (Some callee.Version) xs e a w = absurd (cc)
+  call_well place number own count size taker name (Some callee.Weights) xs e a w = absurd (cc)
+
+  all_well : (place : Place) (number own : ℕ) → own ≡ number
+      → IfOk (count_all place own) (IsWell place number 1)
+  all_well Row number own e = tt
+  all_well Group number own e = count_well Group number own e (λ p. cc)
+  all_well Key number own e = count_well Key number own e (λ p. cc)
+
+  own_well : {X A : Type 0} (place : Place) (number count : ℕ) (z : Form-F X A)
+      (xs : List TypedExpr) → is_aggregate_form z ≡ true
+      → AreWell Row number count (taker_of z) 0 (length (parts z)) xs
+      → IfOk (typed_node c s place (number + count) z xs) (IsWell place number (count + 1))
+  own_well place number count Form-F.CountAll [] h w =
+      let none : 0 ≡ count = w.many in
+      let same : number + count ≡ number = omega (arith, none) in
+      subst (λ n. IfOk (count_all place (number + count)) (IsWell place number (n + 1))) none
+      (all_well place number (number + count) same)
+  own_well place number count Form-F.CountAll (x ∷ xs) h w = absurd (let many = w.as_many in cc)
+  own_well place number count (Form-F.CountDistinct t) [] h w = absurd (let many = w.as_many in cc)
+  own_well place number count (Form-F.CountDistinct t) (x ∷ []) h w =
+      aggregate_well place number (number + count) count 1 plain
+      (codes "count") Count true x refl tt w
+  own_well place number count (Form-F.CountDistinct t) (x ∷ y ∷ xs) h w =
+      absurd (let many = w.as_many in omega (arith, many))
+  own_well place number count (Form-F.Call name ts) xs h w =
+      call_well place number (number + count) count (length ts) (callee_of name) name
+      (callee_of name) xs refl h w
+  own_well place number count _ xs h w = absurd (cc)
+
+  by_tests : (place : Place) (number below : ℕ) (z : Form-F Form Expr) (xs : List TypedExpr)
+      → AreWell (place_below place z) number below (taker_of z) 0 (length (parts z)) xs
+      → (b a : Bool) → is_constant z ≡ b → is_aggregate_form z ≡ a
+      → IfOk (typed_node c s place (number + below) z xs)
+      (IsWell place number (form_count z below))
+  by_tests place number below z xs w true a e h =
+      let none : 0 ≡ form_count z below =
+      ap (λ k. cond k 0 (cond (is_aggregate_form z) (below + 1) below)) (sym e) in
+      subst (λ n. IfOk (typed_node c s place (number + below) z xs) (IsWell place number n)) none
+      (constant_well place place number (number + below) z xs e)
+  by_tests place number below z xs w false true e h =
+      let one : below + 1 ≡ form_count z below =
+      ap (λ k. cond k (below + 1) below) (sym h)
+      ∙ ap (λ k. cond k 0 (cond (is_aggregate_form z) (below + 1) below)) (sym e) in
+      subst (λ n. IfOk (typed_node c s place (number + below) z xs) (IsWell place number n)) one
+      (own_well place number below z xs h
+      (subst (λ k. AreWell (cond k Row place) number below (taker_of z) 0 (length (parts z)) xs)
+      h w))
+  by_tests place number below z xs w false false e h =
+      let same : below ≡ form_count z below =
+      ap (λ k. cond k (below + 1) below) (sym h)
+      ∙ ap (λ k. cond k 0 (cond (is_aggregate_form z) (below + 1) below)) (sym e) in
+      subst (λ n. IfOk (typed_node c s place (number + below) z xs) (IsWell place number n)) same
+      (plain_well place (place_below place z) number below (length (parts z)) (taker_of z)
+      (is_and_form z) xs (typed_node c s place (number + below) z xs)
+      (λ p. ap (λ k. cond k Row place) h ∙ p) w
+      (node_built c s place (number + below) z xs h e w.as_many)
+      (λ all o. node_good known c s scope all place (number + below) z xs h o))
+
+  -- A node
+  node_well : (place : Place) (number : ℕ) (z : Form-F Form Expr) (xs : List TypedExpr)
+      → AreWell (place_below place z) number (total aggregate_count (parts z)) (taker_of z) 0
+      (length (parts z)) xs
+      → IfOk (typed_node c s place (number + total aggregate_count (parts z)) z xs)
+      (IsWell place number (form_count z (total aggregate_count (parts z))))
+  node_well place number z xs w =
+      by_tests place number (total aggregate_count (parts z)) z xs w (is_constant z)
+      (is_aggregate_form z) refl refl
+
+  -- Trees
+  module _ (groups : List Expr) where
+    abbrev IsGood : Expr → Type 0
+    IsGood e = (place : Place) (number : ℕ)
+        → IfOk (typing c s groups place number e) (IsWell place number (aggregate_count e))
+
+    row_at : (place : Place) (e : Expr) → place ≡ Row → place_at groups place e ≡ Row
+    row_at Row e p = refl
+    row_at Group e p = absurd (cc)
+    row_at Key e p = absurd (cc)
+
+    outer : (place own : Place) (number count : ℕ) (t : Typing) → (place ≡ Row → own ≡ Row)
+        → IfOk t (IsWell own number count) → IfOk t (IsWell place number count)
+    outer place own number count (Ok x) p w =
+        record { many = w.many; row = λ e. w.row (p e); sound = w.sound }
+    outer place own number count (Err r) p w = tt
+
+    step : (e : Expr) → AllByRecursion IsGood (parts (out-Form e.form)) → IsGood e
+    step e h place number =
+        let z = out-Form e.form in
+        let own = place_at groups place e in
+        let below = place_below own z in
+        let count = total aggregate_count (parts z) in
+        outer place own number (aggregate_count e) (typing c s groups place number e)
+        (row_at place e)
+        (subst (λ n. IfOk (typing c s groups place number e) (IsWell own number n))
+        (sym (count_is e))
+        (subst (λ t. IfOk t (IsWell own number (form_count z count)))
+        (sym (typing_is c s groups e place number))
+        (then (AreWell below number count (taker_of z) 0 (length (parts z)))
+        (IsWell own number (form_count z count))
+        (operands c s (taker_of z) (typings c s groups below number (parts z)))
+        (typed_node c s own (number + count) z)
+        (operands_well groups below (taker_of z) 0 number (parts z)
+        (each IsGood (IsTyped groups below) (λ d k n. k below n) (parts z) h))
+        (λ xs w. node_well own number z xs w))))
+
+    pub typing_well : (e : Expr) (place : Place) (number : ℕ)
+        → IfOk (typing c s groups place number e) (IsWell place number (aggregate_count e))
+    typing_well = expr_induction IsGood step
 
 pub of_ok : {A E : Type 0} (P : A → Type 0) (r : Result A E) (a : A) → IfOk r P → r ≡ Ok a → P a
 of_ok P r a h e = subst (λ o. IfOk o P) e h
 
-pub typing_typed : Known → (c : Catalog) (s : Scope) (expr : Expr) (x : TypedExpr) → IsScope c s
-    → typing c s expr ≡ Ok x → IsTyOf c x.ty
-typing_typed known c s expr x scope e =
-    (of_ok (IsFine c (row_types c s.table) []) (typing c s expr) x
-    (typing_good known c s scope [] expr) e).0
-
-pub typing_sound : Known → (c : Catalog) (s : Scope) (expr : Expr) (x : TypedExpr)
-    (aggregates : List Ty) → IsScope c s → typing c s expr ≡ Ok x
-    → IsSound c (row_types c s.table) aggregates x
-typing_sound known c s expr x aggregates scope e =
-    (of_ok (IsFine c (row_types c s.table) aggregates) (typing c s expr) x
-    (typing_good known c s scope aggregates expr) e).1
+pub typing_typed : Known → (c : Catalog) (s : Scope) (groups : List Expr) (place : Place)
+    (number : ℕ) (expr : Expr) (x : TypedExpr) → IsScope c s
+    → typing c s groups place number expr ≡ Ok x → IsTyOf c x.ty
+typing_typed known c s groups place number expr x scope e =
+    let w = of_ok (IsWell known c s scope place number (aggregate_count expr))
+    (typing c s groups place number expr) x (typing_well known c s scope groups expr place number)
+    e in
+    let all = padding number ++ aggregate_types x in
+    (w.sound all (subst (λ n. HasFrom all n (aggregate_types x)) (padded number)
+    (has_own (padding number) (aggregate_types x)))).0

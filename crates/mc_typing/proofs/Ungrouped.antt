@@ -1,19 +1,18 @@
 -- No aggregate stands in a tree that is sound where there are none.
-use Rattle.std.proofs.Common.{◌≡◌, Bool, false, List, [], ◌∷◌, ◌++◌, None, Some, map, refl}
-use Rattle.std.proofs.Common.{ap, ◌∙◌}
+use Rattle.std.proofs.Common.{◌≡◌, Bool, true, false, List, [], ◌∷◌, ◌++◌, None, Some, map, refl}
+use Rattle.std.proofs.Common.{ap, sym, ◌∙◌}
 use Rattle.std.specs.List.{AllByRecursion, flat_map}
-use Rattle.std.proofs.lemmas.List.Elements.{recursion_from_All}
+use Rattle.std.proofs.lemmas.List.Elements.{All-from_recursion, recursion_from_All}
 use Rattle.mc_catalog.specs.declared.catalog.Catalog.{Catalog}
 use Rattle.mc_typing.specs.declared.typed.Node.{Node, Node-F, out-Node, map-Node, fold-Node}
 use Rattle.mc_typing.specs.declared.typed.Node.{fold_out-Node}
 use Rattle.mc_typing.specs.declared.typed.Ty.{Ty}
 use Rattle.mc_typing.specs.declared.typed.TypedExpr.{TypedExpr, TypedExpr-F, fold_out-TypedExpr}
-use Rattle.mc_typing.specs.declared.typed.TypedOrder.{TypedOrder}
 use Rattle.mc_typing.specs.Parts.{node_parts}
 use Rattle.mc_typing.specs.Sound.{IsSound, IsSoundNode}
-use Rattle.mc_typing.specs.SoundStatements.{aggregate_types, is_aggregate_node, types_with}
+use Rattle.mc_typing.specs.AggregateTypes.{aggregate_types, is_aggregate_node, types_with}
 use Rattle.mc_typing.proofs.SoundInduction.{mapped_parts, sound_induction}
-use Rattle.mc_typing.proofs.SoundTrees.{sound_here}
+use Rattle.mc_typing.proofs.SoundTrees.{sound_again, sound_here}
 
 mapped_aggregate : {X A Y B : Type 0} (f : X → Y) (g : A → B) (l : Node-F X A)
     → is_aggregate_node (map-Node X A Y B f g l) ≡ is_aggregate_node l
@@ -79,15 +78,50 @@ none_in c columns = sound_induction c columns [] (λ x. aggregate_types x ≡ []
     )
     refl)
 
--- So it is of lists of them, and of keys.
-pub none_all : (c : Catalog) (columns : List Ty) (xs : List TypedExpr)
-    → AllByRecursion (IsSound c columns []) xs → flat_map aggregate_types xs ≡ []
-none_all c columns [] h = refl
-none_all c columns (x ∷ xs) h = rw (none_in c columns x h.0, none_all c columns xs h.1) refl
+-- Without aggregates an expression is sound over any.
 
-pub none_keys : (c : Catalog) (columns : List Ty) (os : List TypedOrder)
-    → AllByRecursion (λ o. IsSound c columns [] o.expr) os
-    → flat_map (λ o. aggregate_types o.expr) os ≡ []
-none_keys c columns [] h = refl
-none_keys c columns (o ∷ os) h =
-    rw (none_in c columns o.expr h.0, none_keys c columns os h.1) refl
+no_more : (b : Bool) (types : List Ty) (ty : Ty) → types_with b types ty ≡ []
+    → (b ≡ false) × (types ≡ [])
+no_more false types ty e = (refl, e)
+no_more true [] ty e = absurd (cc)
+no_more true (t ∷ types) ty e = absurd (cc)
+
+none_each : (xs : List TypedExpr) → flat_map aggregate_types xs ≡ []
+    → AllByRecursion (λ x. aggregate_types x ≡ []) xs
+none_each [] e = tt
+none_each (x ∷ xs) e = let parted = none_both (aggregate_types x) (flat_map aggregate_types xs) e in
+    (parted.0, none_each xs parted.1)
+  where
+    none_both : (types others : List Ty) → types ++ others ≡ [] → (types ≡ []) × (others ≡ [])
+    none_both [] others d = (refl, d)
+    none_both (t ∷ types) others d = absurd (cc)
+
+same_node : (c : Catalog) (columns aggregates others : List Ty) (ty : Ty)
+    (l : Node-F Node TypedExpr) → is_aggregate_node l ≡ false
+    → IsSoundNode c columns aggregates ty l → IsSoundNode c columns others ty l
+same_node c columns aggregates others ty (Node-F.Aggregate name distinct arg place) e h =
+    absurd (cc)
+same_node c columns aggregates others ty l e h = h
+
+held : (c : Catalog) (columns others : List Ty) (xs : List TypedExpr)
+    → AllByRecursion (λ x. aggregate_types x ≡ [] → IsSound c columns others x) xs
+    → AllByRecursion (λ x. aggregate_types x ≡ []) xs
+    → AllByRecursion (IsSound c columns others) xs
+held c columns others [] h k = tt
+held c columns others (x ∷ xs) h k = (h.0 k.0, held c columns others xs h.1 k.1)
+
+pub sound_any : (c : Catalog) (columns aggregates others : List Ty) (x : TypedExpr)
+    → IsSound c columns aggregates x → aggregate_types x ≡ [] → IsSound c columns others x
+sound_any c columns aggregates others = sound_induction c columns aggregates
+    (λ x. aggregate_types x ≡ [] → IsSound c columns others x) (λ x h parts none.
+    let l = out-Node x.node in
+    let here = sound_here c columns aggregates x h in
+    let no = no_more (is_aggregate_node l) (flat_map aggregate_types (node_parts l)) x.ty
+    (sym (aggregate_types_is x) ∙ none) in
+    sound_again c columns others x here.0
+    (same_node c columns aggregates others x.ty l no.0 here.1)
+    (All-from_recursion (IsSound c columns others) (node_parts l)
+    (held c columns others (node_parts l)
+    (recursion_from_All (λ (y : TypedExpr). aggregate_types y ≡ [] → IsSound c columns others y)
+    (node_parts l) parts)
+    (none_each (node_parts l) no.1))))

@@ -1,8 +1,8 @@
--- A statement is typed part by part.
+-- What comes of the items and the orders of a statement.
 use Rattle.std.proofs.Common.{◌≡◌, ℕ, ◌+◌, List, [], ◌∷◌, ◌++◌, Bool, true, false, Option}
-use Rattle.std.proofs.Common.{Some, None, length, map, refl, sym, ap, ◌∙◌, append_assoc, append-nil}
-use Rattle.std.proofs.Common.{cond, subst}
-use Rattle.std.specs.Prelude.{IfOk, Result, Ok, Err, option_map}
+use Rattle.std.proofs.Common.{Some, None, length, refl, sym, ap, ◌∙◌, append_assoc, append-nil}
+use Rattle.std.proofs.Common.{cond, subst, arith}
+use Rattle.std.specs.Prelude.{IfOk, OnOk, Result, Ok, Err, option_map}
 use Rattle.std.specs.List.{AllByRecursion, find}
 use Rattle.mc_base.specs.Results.{result_and_then}
 use Rattle.mc_base.specs.declared.refusal.Refusal.{Refusal}
@@ -12,34 +12,90 @@ use Rattle.mc_ast.specs.Texts.{HasUtf8}
 use Rattle.mc_ast.specs.declared.expr.Expr.{Expr}
 use Rattle.mc_ast.specs.declared.statement.Item.{Item}
 use Rattle.mc_ast.specs.declared.statement.OrderItem.{OrderItem}
-use Rattle.mc_ast.specs.declared.statement.Statement.{Statement}
 use Rattle.mc_catalog.specs.declared.catalog.Catalog.{Catalog}
 use Rattle.mc_typing.specs.declared.fault.TypeFault.{TypeFault}
+use Rattle.mc_typing.specs.declared.fault.TypeFault.TheVariants.{Refused, NoMemory}
+use Rattle.mc_typing.specs.declared.place.Place.{Place}
 use Rattle.mc_typing.specs.declared.scope.Scope.{Scope}
-use Rattle.mc_typing.specs.declared.typed.Typed.{Typed}
 use Rattle.mc_typing.specs.declared.typed.TypedExpr.{TypedExpr}
 use Rattle.mc_typing.specs.declared.typed.TypedOrder.{TypedOrder}
-use Rattle.mc_typing.specs.Exprs.{Typing, before, operands, operands_from, plain}
-use Rattle.mc_typing.specs.Statements.{aliased, item_expr, name_alone, order_keys, order_typing}
-use Rattle.mc_typing.specs.Statements.{star_columns, star_from, typed_all, typed_in}
-use Rattle.mc_typing.specs.Statements.{where_of}
+use Rattle.mc_typing.specs.Aggregates.{aggregate_count, total}
+use Rattle.mc_typing.specs.Exprs.{Typing, operands_from, plain, typings}
+use Rattle.mc_typing.specs.Statements.{aliased, behind, item_expr, name_alone, order_count}
+use Rattle.mc_typing.specs.Statements.{order_keys}
+use Rattle.mc_typing.specs.Statements.{order_typing, typed_all}
 use Rattle.mc_typing.specs.Walk.{with_operands}
-use Rattle.mc_typing.specs.Wanted.{IsWanted}
-use Rattle.mc_typing.specs.Whole.{behind, typed_parts, typed_with, with_key, with_keys}
-use Rattle.mc_typing.proofs.Placed.{placed}
+use Rattle.mc_typing.specs.Wanted.{IsLeft, IsWanted}
+use Rattle.mc_typing.specs.Whole.{with_key, with_keys}
+use Rattle.mc_typing.proofs.Placed.{behind_at, from_nothing, placed, plain_from}
 
--- Of operands as they are the place doesn't matter.
-plain_from : (c : Catalog) (s : Scope) (n m : ℕ) (ts : List Typing)
-    → operands_from c s plain n ts ≡ operands_from c s plain m ts
-plain_from c s n m [] = refl
-plain_from c s n m (Ok x ∷ ts) = ap (before x) (plain_from c s (n + 1) (m + 1) ts)
-plain_from c s n m (Err r ∷ ts) = refl
+-- What is left with a number
 
-pub plain_placed : (c : Catalog) (s : Scope) (xs : List TypedExpr) (ts : List Typing)
-    → with_operands c s plain xs ts ≡ behind xs (operands c s plain ts)
-plain_placed c s xs ts = placed c s plain xs ts ∙ ap (behind xs) (plain_from c s (length xs) 0 ts)
+abbrev without : {T : Type 0} → Result (T × ℕ) Refusal → Result T Refusal
+without r = result_and_then (λ p. Ok p.0) r
+
+left_alone : {T : Type 0} (r : Result Unit TypeFault) (x : T) (n : ℕ)
+    (wanted : Result (T × ℕ) Refusal)
+    → IsLeft r (x, n) wanted → IsLeft r x (without wanted)
+left_alone (Ok u) x n wanted h = ap without h
+left_alone (Err (Refused q)) x n wanted h = ap without h
+left_alone (Err NoMemory) x n wanted h = tt
+
+pub left_wanted : {T : Type 0} (fault : TypeFault) (left : T) (wanted : Result T Refusal)
+    → IsLeft (Err fault) left wanted → IsWanted (Err fault) wanted
+left_wanted (Refused q) left wanted h = h
+left_wanted NoMemory left wanted h = tt
+
+abbrev number_in : {T : Type 0} → Result (T × ℕ) Refusal → ℕ
+number_in (Ok p) = p.1
+number_in (Err q) = 0
+
+-- Items
+
+from_zero : (n : ℕ) → 0 + n ≡ n
+from_zero n = omega arith
+
+alone_behind : (xs : List TypedExpr) (n : ℕ) (others : Result (List TypedExpr) Refusal)
+    → without (behind_at xs n others) ≡ behind xs others
+alone_behind xs n (Ok ys) = refl
+alone_behind xs n (Err q) = refl
+
+module _ (c : Catalog) (s : Scope) (groups : List Expr) (place : Place) (es : List Expr) where
+  abbrev walked : List TypedExpr → Result (List TypedExpr × ℕ) Refusal
+  walked xs = with_operands c s groups place plain xs 0 es
+
+  walked_is : (xs : List TypedExpr)
+      → without (walked xs) ≡ behind xs (typed_all c s groups place es)
+  walked_is xs =
+      ap without (placed c s groups place plain xs 0 es)
+      ∙ (alone_behind xs (0 + total aggregate_count es)
+      (operands_from c s plain (length xs) (typings c s groups place 0 es))
+      ∙ ap (behind xs) (plain_from c s (length xs) 0 (typings c s groups place 0 es)))
+
+  -- Behind the columns of `*`
+  pub items_left : (r : Result Unit TypeFault) (star : Result (List TypedExpr) Refusal)
+      (xs ys : List TypedExpr) (n : ℕ) → behind [] star ≡ Ok xs → IsLeft r (ys, n) (walked xs)
+      → IsLeft r ys (result_and_then (λ zs. behind zs (typed_all c s groups place es)) star)
+  items_left r star xs ys n e h =
+      subst (λ o. IsLeft r ys (result_and_then (λ zs. behind zs (typed_all c s groups place es)) o))
+      (sym (sym (from_nothing star) ∙ e))
+      (subst (IsLeft r ys) (walked_is xs) (left_alone r ys n (walked xs) h))
+
+  count_in : (xs ys : List TypedExpr) (n m : ℕ) (others : Result (List TypedExpr) Refusal)
+      → behind_at xs m others ≡ Ok (ys, n) → n ≡ m
+  count_in xs ys n m (Ok zs) e = sym (ap number_in e)
+  count_in xs ys n m (Err q) e = absurd (cc)
+
+  pub items_number : (r : Result Unit TypeFault) (xs ys : List TypedExpr) (n : ℕ)
+      → IsLeft r (ys, n) (walked xs) → OnOk r (n ≡ total aggregate_count es)
+  items_number (Ok u) xs ys n h =
+      count_in xs ys n (0 + total aggregate_count es)
+      (operands_from c s plain (length xs) (typings c s groups place 0 es))
+      (sym (placed c s groups place plain xs 0 es) ∙ h) ∙ from_zero (total aggregate_count es)
+  items_number (Err fault) xs ys n h = tt
 
 -- Keys
+
 abbrev front : List TypedOrder → Result (List TypedOrder) Refusal → Result (List TypedOrder) Refusal
 front keys others = result_and_then (λ more. Ok (keys ++ more)) others
 
@@ -49,49 +105,41 @@ front_one : (keys : List TypedOrder) (key : TypedOrder) (others : Result (List T
 front_one keys key (Ok more) = ap Ok (append_assoc keys (key ∷ []) more)
 front_one keys key (Err r) = refl
 
-one_placed : (c : Catalog) (s : Scope) (items : List Item) (keys : List TypedOrder)
-    (o : OrderItem) (os : List OrderItem)
-    → ((more : List TypedOrder) → with_keys c s items more os ≡ front more
-    (order_keys c s items os))
-    → (t : Typing) → result_and_then (λ more. with_keys c s items more os) (with_key o.desc keys t)
-    ≡ front keys (result_and_then (λ x. result_and_then (λ more.
-    Ok (record { expr = x; desc = o.desc } ∷ more)) (order_keys c s items os)) t)
-one_placed c s items keys o os others (Ok x) =
-    others (keys ++ record { expr = x; desc = o.desc } ∷ [])
-    ∙ front_one keys (record { expr = x; desc = o.desc }) (order_keys c s items os)
-one_placed c s items keys o os others (Err r) = refl
-
-keys_placed : (c : Catalog) (s : Scope) (items : List Item) (keys : List TypedOrder)
-    (os : List OrderItem)
-    → with_keys c s items keys os ≡ front keys (order_keys c s items os)
-keys_placed c s items keys [] = ap Ok (sym (append-nil keys))
-keys_placed c s items keys (o ∷ os) = one_placed c s items keys o os
-    (λ more. keys_placed c s items more os)
-    (order_typing c s items o.expr)
-
 front_nothing : (others : Result (List TypedOrder) Refusal) → front [] others ≡ others
 front_nothing (Ok more) = refl
 front_nothing (Err r) = refl
 
-pub all_keys : (c : Catalog) (s : Scope) (items : List Item) (os : List OrderItem)
-    → with_keys c s items [] os ≡ order_keys c s items os
-all_keys c s items os = keys_placed c s items [] os ∙ front_nothing (order_keys c s items os)
+module _ (c : Catalog) (s : Scope) (groups : List Expr) (place : Place) (items : List Item) where
+  one_placed : (keys : List TypedOrder) (next : ℕ) (o : OrderItem) (os : List OrderItem)
+      → ((more : List TypedOrder) → without (with_keys c s groups place items more next os)
+      ≡ front more (order_keys c s groups place items next os))
+      → (t : Typing)
+      → without (result_and_then {T = List TypedOrder × ℕ}
+      (λ more. with_keys c s groups place items more.0 more.1 os)
+      (with_key o.desc keys (result_and_then (λ x. Ok (x, next)) t)))
+      ≡ front keys (result_and_then (λ x. result_and_then (λ more.
+      Ok (record { expr = x; desc = o.desc } ∷ more))
+      (order_keys c s groups place items next os)) t)
+  one_placed keys next o os others (Ok x) =
+      others (keys ++ record { expr = x; desc = o.desc } ∷ [])
+      ∙ front_one keys (record { expr = x; desc = o.desc })
+      (order_keys c s groups place items next os)
+  one_placed keys next o os others (Err r) = refl
 
--- The whole
-with_star : (star : List TypedExpr) (next : List TypedExpr
-    → Result Typed Refusal) (r : Result (List TypedExpr) Refusal)
-    → result_and_then (λ items. next (star ++ items)) r ≡ result_and_then next (behind star r)
-with_star star next (Ok items) = refl
-with_star star next (Err r) = refl
+  keys_placed : (keys : List TypedOrder) (n : ℕ) (os : List OrderItem)
+      → without (with_keys c s groups place items keys n os)
+      ≡ front keys (order_keys c s groups place items n os)
+  keys_placed keys n [] = ap Ok (sym (append-nil keys))
+  keys_placed keys n (o ∷ os) = one_placed keys (n + order_count items o.expr) o os
+      (λ more. keys_placed more (n + order_count items o.expr) os)
+      (order_typing c s groups place items n o.expr)
 
-pub parts_are : (script : List ℕ) (statement : Statement) (c : Catalog) (s : Scope)
-    → typed_in script statement c s ≡ typed_parts script statement c s
-parts_are script statement c s = with_star (star_from c 0 (star_columns c s statement.star))
-    (λ items.
-    result_and_then (λ conditions. result_and_then (λ orders.
-    Ok (typed_with script statement c s items conditions orders))
-    (order_keys c s statement.items statement.orders)) (where_of c s statement.filter))
-    (typed_all c s (map (λ item. item.expr) statement.items))
+  pub keys_left : (r : Result Unit TypeFault) (keys : List TypedOrder) (n m : ℕ)
+      (os : List OrderItem) → IsLeft r (keys, m) (with_keys c s groups place items [] n os)
+      → IsLeft r keys (order_keys c s groups place items n os)
+  keys_left r keys n m os h = subst (IsLeft r keys)
+      (keys_placed [] n os ∙ front_nothing (order_keys c s groups place items n os))
+      (left_alone r keys m (with_keys c s groups place items [] n os) h)
 
 -- What is found among items is one of them.
 some_one : {X : Type 0} → (a b : X) → Some a ≡ Some b → a ≡ b

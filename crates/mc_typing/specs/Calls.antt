@@ -1,6 +1,7 @@
 -- Calls over typed arguments: MySQL 8.0 manual, 12.8, 12.15 and 10.8.4.
 use Rattle.std.specs.Prelude.{ℕ, ℤ, pos, Bool, true, false, not, ◌&&◌, ◌||◌, List, [], ◌∷◌, Option}
-use Rattle.std.specs.Prelude.{Some, None, Result, Ok, Err, codes, length, drop, take, nat_eq, int_le}
+use Rattle.std.specs.Prelude.{Some, None, Result, Ok, Err, codes, length, drop, take, nat_eq}
+use Rattle.std.specs.Prelude.{int_le}
 use Rattle.std.specs.Prelude.{if◌then◌else◌}
 use Rattle.mc_base.specs.Results.{result_and_then}
 use Rattle.mc_base.specs.declared.refusal.Refusal.{Refusal}
@@ -19,6 +20,7 @@ use Rattle.mc_values.specs.declared.value.Value.TheVariants as value
 use Rattle.mc_typing.specs.declared.callee.Callee.{Callee}
 use Rattle.mc_typing.specs.declared.callee.Callee.TheVariants.{Of, Charset, Collation}
 use Rattle.mc_typing.specs.declared.callee.Callee.TheVariants.{Version, Aggregate}
+use Rattle.mc_typing.specs.declared.place.Place.{Place}
 use Rattle.mc_typing.specs.declared.scope.Scope.{Scope}
 use Rattle.mc_typing.specs.declared.typed.Func.{Func}
 use Rattle.mc_typing.specs.declared.typed.Func.TheVariants.{CharLength, Length}
@@ -29,6 +31,7 @@ use Rattle.mc_typing.specs.declared.typed.Node.TheVariants.{Call, Const, WeightS
 use Rattle.mc_typing.specs.declared.typed.Ty.{Ty}
 use Rattle.mc_typing.specs.declared.typed.Ty.TheVariants.{Int, Str}
 use Rattle.mc_typing.specs.declared.typed.TypedExpr.{TypedExpr}
+use Rattle.mc_typing.specs.Aggregates.{aggregate_call}
 use Rattle.mc_typing.specs.Functions.{takes}
 use Rattle.mc_typing.specs.Literals.{int_const}
 use Rattle.mc_typing.specs.Messages.{collation_name, no_function, wrong_argument, wrong_count}
@@ -104,24 +107,25 @@ abbrev pub first_operand : Catalog → Scope → List TypedExpr → Operand
 first_operand c s [] = operand_of c s Int
 first_operand c s (x ∷ xs) = operand_of c s x.ty
 
--- A call with a number of arguments that the function takes. An aggregate has no place so far.
-abbrev pub called : Catalog → Scope → List ℕ → Callee → List TypedExpr → Result TypedExpr Refusal
-called c s name (Of function) xs = function_call c s function name xs
-called c s name Version xs = Ok (system_text c system_constant version_text)
-called c s name Aggregate xs = Err (wrong_argument name)
-called c s name callee xs = Ok (shown c callee (first_operand c s xs))
+-- A call with a number of arguments that the function takes; an aggregate has a number, too.
+abbrev pub called : Catalog → Scope → Place → ℕ → List ℕ → Callee → List TypedExpr
+    → Result TypedExpr Refusal
+called c s place number name (Of function) xs = function_call c s function name xs
+called c s place number name Version xs = Ok (system_text c system_constant version_text)
+called c s place number name (Aggregate which) xs = aggregate_call place number name which xs
+called c s place number name callee xs = Ok (shown c callee (first_operand c s xs))
 
 -- A call of a function.
-abbrev pub counted_call : Catalog → Scope → List ℕ → Callee → List TypedExpr
+abbrev pub counted_call : Catalog → Scope → Place → ℕ → List ℕ → Callee → List TypedExpr
     → Result TypedExpr Refusal
-counted_call c s name callee xs =
-    if takes callee (length xs) then called c s name callee xs else Err (wrong_count name)
+counted_call c s place number name callee xs = if takes callee (length xs)
+    then called c s place number name callee xs else Err (wrong_count name)
 
 -- A call of what a name stands for.
-abbrev pub call : Catalog → Scope → List ℕ → Option Callee → List TypedExpr
+abbrev pub call : Catalog → Scope → Place → ℕ → List ℕ → Option Callee → List TypedExpr
     → Result TypedExpr Refusal
-call c s name None xs = Err (no_function name)
-call c s name (Some callee) xs = counted_call c s name callee xs
+call c s place number name None xs = Err (no_function name)
+call c s place number name (Some callee) xs = counted_call c s place number name callee xs
 
 -- A length of WEIGHT_STRING within its limits.
 abbrev pub is_length : ℤ → Bool

@@ -10,6 +10,7 @@ use Rattle.mc_ast.specs.declared.operators.TrimSide.TheVariants.{Both, Leading, 
 use Rattle.mc_typing.specs.declared.callee.Callee.{Callee}
 use Rattle.mc_typing.specs.declared.callee.Callee.TheVariants.{Of, Charset, Collation, Coercibility}
 use Rattle.mc_typing.specs.declared.callee.Callee.TheVariants.{Version, Weights, Aggregate}
+use Rattle.mc_typing.specs.declared.typed.AggName.TheVariants.{Count, Min, Max, Sum}
 use Rattle.mc_typing.specs.declared.typed.Func.{Func}
 use Rattle.mc_typing.specs.declared.typed.Func.TheVariants.{Concat, ConcatWs, CharLength, Length}
 use Rattle.mc_typing.specs.declared.typed.Func.TheVariants.{Hex, Substring, Left, Right, TrimBoth}
@@ -33,8 +34,9 @@ other_functions = (codes "char_length", Of CharLength) ∷ (codes "length", Of L
 abbrev pub special_functions : List (List ℕ × Callee)
 special_functions = (codes "charset", Charset) ∷ (codes "collation", Collation)
     ∷ (codes "coercibility", Coercibility) ∷ (codes "version", Version)
-    ∷ (codes "weight_string", Weights) ∷ (codes "count", Aggregate) ∷ (codes "min", Aggregate)
-    ∷ (codes "max", Aggregate) ∷ (codes "sum", Aggregate) ∷ []
+    ∷ (codes "weight_string", Weights) ∷ (codes "count", Aggregate Count)
+    ∷ (codes "min", Aggregate Min) ∷ (codes "max", Aggregate Max)
+    ∷ (codes "sum", Aggregate Sum) ∷ []
 
 -- The first of the name in a list.
 abbrev pub listed : List (List ℕ × Callee) → List ℕ → Option Callee

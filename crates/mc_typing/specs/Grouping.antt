@@ -1,15 +1,9 @@
 -- Statements whose rows no GROUP BY and no aggregate groups: MySQL 8.0 manual, 12.19.3.
-use Rattle.std.specs.Prelude.{Bool, true, false, not, ◌&&◌, List, [], ◌∷◌}
+use Rattle.std.specs.Prelude.{Bool, false, not, ◌&&◌}
 use Rattle.std.specs.List.{list_any}
 use Rattle.std.specs.Option.{option_map_or}
-use Rattle.mc_ast.specs.declared.expr.Expr.{Expr}
 use Rattle.mc_ast.specs.declared.statement.Statement.{Statement}
-use Rattle.mc_typing.specs.Statements.{has_aggregate}
-
--- There is no GROUP BY.
-abbrev pub has_no_groups : List Expr → Bool
-has_no_groups [] = true
-has_no_groups (group ∷ groups) = false
+use Rattle.mc_typing.specs.Statements.{has_aggregate, has_no_groups}
 
 -- No aggregate and no GROUP BY stands in the statement.
 unfoldable pub is_ungrouped : Statement → Bool

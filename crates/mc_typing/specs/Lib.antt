@@ -7,6 +7,11 @@ pub mod Functions
 pub mod Literals
 pub mod Columns
 pub mod Operators
+pub mod Forms
+pub mod Likeness
+pub mod Arity
+pub mod Aggregates
+pub mod Places
 pub mod Calls
 pub mod Exprs
 pub mod Walk
@@ -17,5 +22,6 @@ pub mod Gathered
 pub mod Whole
 pub mod OfType
 pub mod Parts
+pub mod AggregateTypes
 pub mod Sound
 pub mod SoundStatements

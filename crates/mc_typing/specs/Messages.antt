@@ -23,6 +23,10 @@ no_table name = naming 1146 "Table '" name "' doesn't exist"
 abbrev pub no_column : List ℕ → Refusal
 no_column name = naming 1054 "Unknown column '" name "'"
 
+-- No expression that rows are grouped by is the column of this name, or has it.
+abbrev pub not_grouped : List ℕ → Refusal
+not_grouped name = naming 1055 "Column '" name "' is not grouped"
+
 -- No set has this name.
 abbrev pub no_set : List ℕ → Refusal
 no_set name = naming 1115 "Unknown character set: '" name "'"

@@ -1,7 +1,8 @@
 -- Sound typed trees, as typing gives them: each node has operands of the kinds that it takes, and a
 -- type that its value has. The conversions of an operation are no nodes: the source is the type of
 -- the operand, the target the set of the operation's collation, and each text can be converted.
-use Rattle.std.specs.Prelude.{◌≡◌, ℕ, ◌<◌, ◌≤◌, Bool, ◌&&◌, List, Option, Some, None, All}
+use Rattle.std.specs.Prelude.{◌≡◌, ℕ, ◌<◌, ◌≤◌, Bool, true, false, ◌&&◌, List, [], Option, Some}
+use Rattle.std.specs.Prelude.{None, All}
 use Rattle.std.specs.Prelude.{IsTrue, MatchBool, get_or, length, nat_le, slice_get}
 use Rattle.mc_charset.specs.declared.charset.Charset.TheVariants.{Binary as SetBinary}
 use Rattle.mc_charset.specs.declared.collation_id.CollId.{CollId}
@@ -18,6 +19,7 @@ use Rattle.mc_typing.specs.declared.typed.Node.{Node-F, out-Node}
 use Rattle.mc_typing.specs.declared.typed.Ty.{Ty}
 use Rattle.mc_typing.specs.declared.typed.Ty.TheVariants.{Int, Str}
 use Rattle.mc_typing.specs.declared.typed.TypedExpr.{TypedExpr, every-TypedExpr}
+use Rattle.mc_typing.specs.AggregateTypes.{aggregate_types}
 use Rattle.mc_typing.specs.Calls.{is_cut}
 use Rattle.mc_typing.specs.Functions.{takes, takes_text}
 use Rattle.mc_typing.specs.OfType.{IsNumeric, IsOfType, IsTextIn, IsTextTy, IsTextual, KeepsSet}
@@ -86,13 +88,25 @@ pub record IsSoundCall (c : Catalog) (function : Func) (uses : Option Operand) (
   pub arguments : AreArguments function xs
   pub result : IsResult c function uses ty
 
--- An aggregate of a type over its argument, which COUNT(*) alone lacks.
-abbrev pub IsSoundAggregate : AggName → Option TypedExpr → Ty → Type 0
-IsSoundAggregate Count arg ty = ty ≡ Int
-IsSoundAggregate Sum (Some x) ty = IsNumeric x.ty × (ty ≡ Int)
-IsSoundAggregate Min (Some x) ty = ty ≡ x.ty
-IsSoundAggregate Max (Some x) ty = ty ≡ x.ty
-IsSoundAggregate name None ty = ⊥
+-- The type of an aggregate of an argument of a type.
+abbrev pub IsAggregateTy : AggName → Ty → Ty → Type 0
+IsAggregateTy Count arg ty = ty ≡ Int
+IsAggregateTy Sum arg ty = IsNumeric arg × (ty ≡ Int)
+IsAggregateTy Min arg ty = ty ≡ arg
+IsAggregateTy Max arg ty = ty ≡ arg
+
+-- DISTINCT stands in COUNT alone.
+abbrev pub IsDistinctIn : AggName → Bool → Type 0
+IsDistinctIn name false = Unit {0}
+IsDistinctIn Count true = Unit {0}
+IsDistinctIn name true = ⊥
+
+-- An aggregate of a type over its argument, in which no aggregate stands. COUNT(*) alone lacks one.
+abbrev pub IsSoundAggregate : AggName → Bool → Option TypedExpr → Ty → Type 0
+IsSoundAggregate name distinct (Some x) ty =
+    IsAggregateTy name x.ty ty × IsDistinctIn name distinct × (aggregate_types x ≡ [])
+IsSoundAggregate Count false None ty = ty ≡ Int
+IsSoundAggregate name distinct None ty = ⊥
 
 -- A node of a type over its operands, where rows have columns and groups have aggregates of such
 -- types.
@@ -123,7 +137,7 @@ IsSoundNode c columns aggregates ty (Node-F.Call function uses xs) =
 IsSoundNode c columns aggregates ty (Node-F.NumberText set x) = (x.ty ≡ Int) × IsTextIn set ty
 IsSoundNode c columns aggregates ty (Node-F.Convert set x) = IsTextual x.ty × IsTextIn set ty
 IsSoundNode c columns aggregates ty (Node-F.Aggregate name distinct arg place) =
-    (slice_get aggregates place ≡ Some ty) × IsSoundAggregate name arg ty
+    (slice_get aggregates place ≡ Some ty) × IsSoundAggregate name distinct arg ty
 IsSoundNode c columns aggregates ty (Node-F.WeightString cut x) =
     IsTrue (is_cut cut) × IsTextual x.ty × IsTextIn SetBinary ty
 

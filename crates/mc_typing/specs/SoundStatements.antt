@@ -1,17 +1,15 @@
 -- Sound typed statements, which are those that typing gives.
-use Rattle.std.specs.Prelude.{◌≡◌, ℕ, ◌<◌, Bool, true, false, List, [], ◌∷◌, ◌++◌, Option}
+use Rattle.std.specs.Prelude.{◌≡◌, ℕ, ◌<◌, false, List, [], ◌++◌, Option}
 use Rattle.std.specs.Prelude.{All, IfSome, length, map, option_map, slice_get, unwrap_or}
 use Rattle.std.specs.List.{flat_map}
 use Rattle.std.specs.Option.{option_and_then}
 use Rattle.mc_catalog.specs.declared.catalog.Catalog.{Catalog}
 use Rattle.mc_catalog.specs.declared.catalog.ColumnDecl.{ColumnDecl}
-use Rattle.mc_typing.specs.declared.typed.Node.{Node-F}
 use Rattle.mc_typing.specs.declared.typed.Ty.{Ty}
 use Rattle.mc_typing.specs.declared.typed.Typed.{Typed}
-use Rattle.mc_typing.specs.declared.typed.TypedExpr.{TypedExpr, fold-TypedExpr}
+use Rattle.mc_typing.specs.AggregateTypes.{aggregate_types}
 use Rattle.mc_typing.specs.Columns.{column_ty}
 use Rattle.mc_typing.specs.OfType.{IsNumeric}
-use Rattle.mc_typing.specs.Parts.{node_parts}
 use Rattle.mc_typing.specs.Sound.{IsSound}
 
 -- The columns of the table at a place, if there is one.
@@ -23,35 +21,13 @@ columns_at c place = unwrap_or (option_map (λ table. table.columns)
 abbrev pub row_types : Catalog → Option ℕ → List Ty
 row_types c place = map (λ column. column_ty c column.ty) (columns_at c place)
 
--- The node itself is an aggregate.
-abbrev pub is_aggregate_node : {X A : Type 0} → Node-F X A → Bool
-is_aggregate_node (Node-F.Aggregate name distinct arg place) = true
-is_aggregate_node node = false
-
--- The type of an aggregate, behind those of its operands.
-abbrev pub types_with : Bool → List Ty → Ty → List Ty
-types_with true types ty = types ++ ty ∷ []
-types_with false types ty = types
-
--- The types of the aggregates of an expression, operands before their operation.
-unfoldable pub aggregate_types : TypedExpr → List Ty
-aggregate_types x = fold-TypedExpr (Bool × List Ty) (List Ty)
-    (λ node. (is_aggregate_node node, flat_map (λ types. types) (node_parts node)))
-    (λ e. types_with e.node.0 e.node.1 e.ty) x
-
 -- The types of the aggregates of a statement: those of its items, then those of its orders.
 abbrev pub statement_aggregates : Typed → List Ty
 statement_aggregates t = flat_map aggregate_types t.items
     ++ flat_map (λ order. aggregate_types order.expr) t.orders
 
--- The statement has no groups, and no aggregate stands in it.
-pub record HasNoGroups (t : Typed) : Type 0 where
-  pub ungrouped : t.grouped ≡ false
-  pub groups : t.groups ≡ []
-  pub aggregates : statement_aggregates t ≡ []
-
--- The statement's expressions are sound over its table's columns; aggregates stand in items and
--- orders alone, and its conjuncts are truth values. So far it has no groups.
+-- The statement's expressions are sound over its table's columns, and its conjuncts are truth
+-- values. Aggregates stand in its items and orders alone; without groups there are none.
 pub record IsSoundStatement (c : Catalog) (t : Typed) : Type 0 where
   pub table : IfSome t.table (λ place. place < length c.tables)
   pub header : length t.header ≡ length t.items
@@ -61,4 +37,4 @@ pub record IsSoundStatement (c : Catalog) (t : Typed) : Type 0 where
   pub groups : All (IsSound c (row_types c t.table) []) t.groups
   pub orders : All (λ order. IsSound c (row_types c t.table) (statement_aggregates t) order.expr)
       t.orders
-  pub plain : HasNoGroups t
+  pub ungrouped : t.grouped ≡ false → (t.groups ≡ []) × (statement_aggregates t ≡ [])

@@ -1,5 +1,5 @@
 -- What a call gives, beside what the definitions say.
-use Rattle.std.specs.Prelude.{◌≡◌, Bool, Result, Ok, Err}
+use Rattle.std.specs.Prelude.{◌≡◌, ℕ, Bool, Result, Ok, Err}
 use Rattle.mc_base.specs.declared.no_memory.NoMemory.{NoMemory as Lack}
 use Rattle.mc_base.specs.declared.refusal.Refusal.{Refusal}
 use Rattle.mc_typing.specs.declared.fault.TypeFault.{TypeFault}
@@ -28,3 +28,9 @@ abbrev pub IsGathered : {T : Type 0} → Result Bool TypeFault → T → Result 
 IsGathered (Ok is) left wanted = wanted ≡ Ok (left, is)
 IsGathered (Err (Refused refusal)) left wanted = wanted ≡ Err refusal
 IsGathered (Err NoMemory) left wanted = Unit {0}
+
+-- The same where the call also moves a number on.
+abbrev pub IsMade : {T : Type 0} → Result T TypeFault → ℕ → Result (T × ℕ) Refusal → Type 0
+IsMade (Ok value) number wanted = wanted ≡ Ok (value, number)
+IsMade (Err (Refused refusal)) number wanted = wanted ≡ Err refusal
+IsMade (Err NoMemory) number wanted = Unit {0}

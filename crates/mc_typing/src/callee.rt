@@ -1,3 +1,4 @@
+ghost use Rattle.mc_typing.specs.Aggregates.{is_aggregate, shows_type};
 ghost use Rattle.mc_typing.specs.Functions.{
   callee_of,
   listed,
@@ -13,7 +14,7 @@ ghost use Rattle.mc_typing.specs.declared.callee.Callee.TheVariants.{Of};
 ghost use Rattle.std.specs.Prelude.{◌≡◌};
 ghost use Rattle.std.specs.Str.{bytes_eq};
 
-use crate::typed::Func;
+use crate::typed::{AggName, Func};
 use mc_ast::TrimSide;
 
 /// What a name calls.
@@ -27,7 +28,7 @@ pub(crate) enum Callee {
     Version,
     /// WEIGHT_STRING, whose right calls are no calls by name.
     Weights,
-    Aggregate,
+    Aggregate(AggName),
 }
 
 /// What takes texts at each place.
@@ -45,6 +46,23 @@ pub(crate) fn callee_of(name: &[u8]) -> Option<Callee>
             None => special_function(name),
         },
     }
+}
+
+/// Whether it is an aggregate.
+pub(crate) fn is_aggregate(callee: Option<Callee>) -> bool
+    ensures { result ≡ is_aggregate callee }
+{
+    matches!(callee, Some(Callee::Aggregate(_)))
+}
+
+/// Whether it shows the type of its argument alone.
+pub(crate) fn shows_type(callee: Option<Callee>) -> bool
+    ensures { result ≡ shows_type callee }
+{
+    matches!(
+        callee,
+        Some(Callee::Charset | Callee::Collation | Callee::Coercibility)
+    )
 }
 
 /// Whether it is this name.
@@ -115,12 +133,14 @@ fn special_function(name: &[u8]) -> Option<Callee>
         Some(Callee::Version)
     } else if is_named(name, b"weight_string") {
         Some(Callee::Weights)
-    } else if is_named(name, b"count")
-        || is_named(name, b"min")
-        || is_named(name, b"max")
-        || is_named(name, b"sum")
-    {
-        Some(Callee::Aggregate)
+    } else if is_named(name, b"count") {
+        Some(Callee::Aggregate(AggName::Count))
+    } else if is_named(name, b"min") {
+        Some(Callee::Aggregate(AggName::Min))
+    } else if is_named(name, b"max") {
+        Some(Callee::Aggregate(AggName::Max))
+    } else if is_named(name, b"sum") {
+        Some(Callee::Aggregate(AggName::Sum))
     } else {
         None
     }
@@ -145,8 +165,9 @@ pub(crate) fn takes(callee: Callee, count: usize) -> bool
         Callee::Of(function) => function_takes(function, count),
         Callee::Version => count == 0,
         Callee::Weights => false,
-        Callee::Charset | Callee::Collation | Callee::Coercibility | Callee::Aggregate => count
-            == 1,
+        Callee::Charset | Callee::Collation | Callee::Coercibility | Callee::Aggregate(_) => {
+            count == 1
+        }
     }
 }
 

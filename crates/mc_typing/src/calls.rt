@@ -21,8 +21,12 @@ ghost use Rattle.mc_typing.specs.Functions.{callee_of, trim_of};
 ghost use Rattle.mc_typing.specs.Operands.{AreTyped};
 ghost use Rattle.mc_typing.specs.Operators.{some_text};
 ghost use Rattle.mc_typing.specs.Scope.{IsScope};
+ghost use Rattle.mc_typing.specs.Aggregates.{is_aggregate};
+ghost use Rattle.mc_typing.specs.Walk.{call_shape};
 ghost use Rattle.mc_typing.specs.Wanted.{IsWanted};
-ghost use Rattle.std.specs.Prelude.{◌≡◌, IfOk, codes, drop, take};
+ghost use Rattle.mc_typing.specs.declared.place.Place.{Place};
+ghost use Rattle.mc_typing.specs.declared.shape.Shape.TheVariants.{Several};
+ghost use Rattle.std.specs.Prelude.{◌≡◌, ℕ, IfOk, Some, codes, drop, false, length, take};
 
 use crate::callee::{Callee, callee_of, takes, trim_of};
 use crate::fault::{TypeFault, refused};
@@ -274,12 +278,14 @@ fn called(
 ) -> Result<TypedExpr, TypeFault>
     requires scope { IsScope c.now s }
     requires typed { AreTyped c.now xs }
-    ensures { IsWanted result (called c.now s name.now callee xs) }
+    requires plain { is_aggregate (Some callee) ≡ false }
+    ensures { (place : Place) (number : ℕ)
+        → IsWanted result (called c.now s place number name.now callee xs) }
 {
     match callee {
         Callee::Of(function) => function_call(alloc, c, s, function, name, xs),
         Callee::Version => Ok(system_text(alloc, c, SYSTEM_CONSTANT, b"8.0-profile")?),
-        Callee::Aggregate => Err(refused(wrong_argument(alloc, name))),
+        Callee::Aggregate(_) => unreachable!(),
         Callee::Charset | Callee::Collation | Callee::Coercibility | Callee::Weights => {
             let operand = first_operand(c, s, xs.as_slice());
             Ok(shown(alloc, c, callee, &operand)?)
@@ -287,7 +293,7 @@ fn called(
     }
 }
 
-/// A call of what a name stands for.
+/// A call of what a name stands for, but an aggregate of its one argument.
 fn call(
     alloc: Global,
     c: &Catalog,
@@ -298,7 +304,9 @@ fn call(
 ) -> Result<TypedExpr, TypeFault>
     requires scope { IsScope c.now s }
     requires typed { AreTyped c.now xs }
-    ensures { IsWanted result (call c.now s name.now callee xs) }
+    requires shape { call_shape callee (length xs) ≡ Several }
+    ensures { (place : Place) (number : ℕ)
+        → IsWanted result (call c.now s place number name.now callee xs) }
 {
     let Some(callee) = callee else {
         return Err(refused(no_function(alloc, name)));
@@ -310,7 +318,7 @@ fn call(
     }
 }
 
-/// A call of a name.
+/// A call of a name, but an aggregate of its one argument.
 pub(crate) fn call_named(
     alloc: Global,
     c: &Catalog,
@@ -320,7 +328,9 @@ pub(crate) fn call_named(
 ) -> Result<TypedExpr, TypeFault>
     requires scope { IsScope c.now s }
     requires typed { AreTyped c.now xs }
-    ensures { IsWanted result (call c.now s name.now (callee_of name.now) xs) }
+    requires shape { call_shape (callee_of name.now) (length xs) ≡ Several }
+    ensures { (place : Place) (number : ℕ)
+        → IsWanted result (call c.now s place number name.now (callee_of name.now) xs) }
 {
     let name = name.as_slice();
     call(alloc, c, s, name, callee_of(name), xs)

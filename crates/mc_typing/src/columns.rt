@@ -9,13 +9,16 @@ ghost use Rattle.mc_typing.specs.Columns.{
   place_of,
   text_column,
 };
+ghost use Rattle.mc_typing.specs.Exprs.{Typing};
+ghost use Rattle.mc_typing.specs.Places.{column_in};
 ghost use Rattle.mc_typing.specs.Scope.{IsScope, columns_of, table_of};
 ghost use Rattle.mc_typing.specs.Wanted.{IsWanted};
 ghost use Rattle.std.specs.Prelude.{◌≡◌, ◌<◌, ◌^◌, All, IfSome, length};
 
 use crate::fault::{TypeFault, refused};
-use crate::messages::no_column;
+use crate::messages::{no_column, not_grouped};
 use crate::operands::{BINARY, of_collation};
+use crate::place::Place;
 use crate::scope::Scope;
 use crate::typed::{Node, Ty, TypedExpr};
 use mc_catalog::{Catalog, ColumnDecl, ColumnType, TableDecl, collation_set};
@@ -137,5 +140,23 @@ pub(crate) fn column_of_table(
         column(alloc, c, s, name)
     } else {
         Err(refused(no_column(alloc, name)))
+    }
+}
+
+/// A column, where it stands: in a group it has no value, once it is known at all.
+pub(crate) fn column_in(
+    alloc: Global,
+    place: Place,
+    name: &[u8],
+    typed: Result<TypedExpr, TypeFault>,
+) -> Result<TypedExpr, TypeFault>
+    ensures { (t : Typing) → IsWanted typed t → IsWanted result (column_in place name.now t) }
+{
+    match place {
+        Place::Group => {
+            typed?;
+            Err(refused(not_grouped(alloc, name)))
+        }
+        Place::Row | Place::Key => typed,
     }
 }

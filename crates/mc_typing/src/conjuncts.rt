@@ -1,6 +1,6 @@
 ghost use Rattle.mc_ast.specs.Texts.{HasUtf8};
 ghost use Rattle.mc_base.specs.declared.refusal.Refusal.{Refusal};
-ghost use Rattle.mc_typing.specs.Exprs.{Typing, typing};
+ghost use Rattle.mc_typing.specs.Exprs.{Typing, in_row};
 ghost use Rattle.mc_typing.specs.Gathered.{alone, gathered, gathered_all, judged};
 ghost use Rattle.mc_typing.specs.Scope.{IsScope};
 ghost use Rattle.mc_typing.specs.Statements.{where_of};
@@ -15,7 +15,7 @@ use crate::operands::is_text;
 use crate::scope::Scope;
 use crate::strings::parts_law;
 use crate::typed::TypedExpr;
-use crate::walk::type_expr;
+use crate::walk::type_in_row;
 use mc_ast::{Expr, Form};
 use mc_base::List;
 use mc_catalog::Catalog;
@@ -57,12 +57,12 @@ fn put_conjuncts(
 ) -> Result<bool, TypeFault>
     requires scope { IsScope c.now s }
     requires script { HasUtf8 e.now }
-    ensures { IsGathered result xs.new (gathered xs.old (typing c.now s e.now)) }
+    ensures { IsGathered result xs.new (gathered xs.old (in_row c.now s e.now)) }
 {
     parts_law(e);
     match &e.form {
         Form::And(es) => judge(alloc, b"and", put_members(es.as_slice(), alloc, c, s, xs)),
-        _ => put_alone(type_expr(e, alloc, c, s), xs),
+        _ => put_alone(type_in_row(e, alloc, c, s), xs),
     }
 }
 
@@ -78,7 +78,7 @@ fn put_members(
     requires scope { IsScope c.now s }
     requires script { AllByRecursion HasUtf8 es.now }
     ensures { IsGathered result xs.new
-        (gathered_all xs.old false (map (typing c.now s) es.now)) }
+        (gathered_all xs.old false (map (in_row c.now s) es.now)) }
 {
     let mut some_text = false;
     for e in es {
@@ -99,7 +99,7 @@ fn put_where(
     requires scope { IsScope c.now s }
     requires script { HasUtf8 e.now }
     ensures { IsGathered result xs.new
-        (judged (codes "where") (gathered xs.old (typing c.now s e.now))) }
+        (judged (codes "where") (gathered xs.old (in_row c.now s e.now))) }
 {
     judge(alloc, b"where", put_conjuncts(e, alloc, c, s, xs))
 }

@@ -1,32 +1,28 @@
 ghost use Rattle.mc_ast.specs.declared.expr.Form.TheViews.{out-Form};
-ghost use Rattle.mc_typing.specs.Exprs.{parts};
-ghost use Rattle.mc_typing.specs.Grouping.{has_no_groups, is_ungrouped};
-ghost use Rattle.mc_typing.specs.Statements.{IsUngrouped, aggregates, has_aggregate};
+ghost use Rattle.mc_typing.specs.Forms.{parts};
+ghost use Rattle.mc_typing.specs.Grouping.{is_ungrouped};
+ghost use Rattle.mc_typing.specs.Statements.{
+  IsUngrouped,
+  has_aggregate,
+  has_no_groups,
+  is_grouped,
+  own_place,
+};
 ghost use Rattle.std.specs.Bool.{OnTrue};
 ghost use Rattle.std.specs.List.{list_any};
 ghost use Rattle.std.specs.Option.{option_map_or};
 ghost use Rattle.std.specs.Prelude.{◌≡◌, [], ◌∷◌, false};
 
-use crate::callee::{Callee, callee_of};
+use crate::place::Place;
+use crate::places::is_aggregate_form;
 use mc_ast::{Expr, Form, Item, OrderItem, Statement};
-
-/// Whether the form itself is an aggregate.
-fn is_aggregate(form: &Form) -> bool
-    ensures { result ≡ aggregates (out-Form form.now) }
-{
-    match form {
-        Form::CountAll | Form::CountDistinct(_) => true,
-        Form::Call { name, .. } => { matches!(callee_of(name.as_slice()), Some(Callee::Aggregate)) }
-        _ => false,
-    }
-}
 
 /// Whether an aggregate stands in an expression.
 #[cycle(grouping)]
 pub(crate) fn has_aggregate(e: &Expr) -> bool
     ensures { result ≡ has_aggregate e.now }
 {
-    is_aggregate(&e.form) || in_operands(&e.form)
+    is_aggregate_form(&e.form) || in_operands(&e.form)
 }
 
 /// Whether one of so many tests holds.
@@ -175,4 +171,26 @@ pub fn is_ungrouped(statement: &Statement) -> bool
         && !in_items(statement.items.as_slice())
         && !in_filter(&statement.filter)
         && !in_orders(statement.orders.as_slice())
+}
+
+/// Whether a statement's rows are grouped: by GROUP BY, or into one group by an aggregate among its
+/// items and orders. MySQL 8.0 manual, 12.19.3.
+#[tactic(auto, unfolding(crate::specs::Statements::is_grouped))]
+pub(crate) fn is_grouped(statement: &Statement) -> bool
+    ensures { result ≡ is_grouped statement.now }
+{
+    !has_no_groups(statement.groups.as_slice())
+        || in_items(statement.items.as_slice())
+        || in_orders(statement.orders.as_slice())
+}
+
+/// Where the items and the orders of a statement stand.
+pub(crate) fn own_place(statement: &Statement) -> Place
+    ensures { result ≡ own_place statement.now }
+{
+    if is_grouped(statement) {
+        Place::Group
+    } else {
+        Place::Row
+    }
 }

@@ -1,30 +1,39 @@
 ghost use Rattle.mc_ast.specs.declared.expr.Form.TheViews.{out-Form};
-ghost use Rattle.mc_typing.specs.Exprs.{Typing, operands, parts, typing};
-ghost use Rattle.mc_typing.specs.Messages.{wrong_argument};
+ghost use Rattle.mc_base.specs.declared.refusal.Refusal.{Refusal};
+ghost use Rattle.mc_catalog.specs.declared.catalog.Catalog.{Catalog};
+ghost use Rattle.mc_typing.specs.Aggregates.{is_aggregate};
+ghost use Rattle.mc_typing.specs.Calls.{call};
+ghost use Rattle.mc_typing.specs.Exprs.{taker_of, typed_node};
+ghost use Rattle.mc_typing.specs.Forms.{parts};
+ghost use Rattle.mc_typing.specs.Functions.{callee_of};
 ghost use Rattle.mc_typing.specs.Operands.{AreTyped};
+ghost use Rattle.mc_typing.specs.Places.{place_below};
 ghost use Rattle.mc_typing.specs.Scope.{IsScope};
 ghost use Rattle.mc_typing.specs.Walk.{
+  numbered_form,
   shape_of,
-  taker_of,
-  typing_form,
   with_operand,
   with_operands,
 };
-ghost use Rattle.mc_typing.specs.Wanted.{IsLeft, IsWanted};
-ghost use Rattle.mc_typing.specs.declared.shape.Shape.TheVariants.{Several};
-ghost use Rattle.std.specs.Prelude.{◌≡◌, [], Err, Ok, codes, map};
+ghost use Rattle.mc_typing.specs.Wanted.{IsLeft, IsMade, IsWanted};
+ghost use Rattle.mc_typing.specs.declared.place.Place.{Place};
+ghost use Rattle.mc_typing.specs.declared.scope.Scope.{Scope};
+ghost use Rattle.mc_typing.specs.declared.shape.Shape.TheVariants.{Several, Single};
+ghost use Rattle.mc_typing.specs.declared.typed.TypedExpr.{TypedExpr};
+ghost use Rattle.std.specs.Prelude.{◌≡◌, ℕ, [], ◌∷◌, Result, length, true};
 
-use crate::callee::{Callee, turns_to_text};
-use crate::calls::{call_named, function_call, trim};
-use crate::conversions::turned;
-use crate::fault::{TypeFault, refused};
+use crate::aggregates::aggregate;
+use crate::callee::{Callee, callee_of, turns_to_text};
+use crate::calls::{call_named, function_call, trim, weights};
+use crate::conversions::{cast_char, cast_to_bytes, collate, convert, turned};
+use crate::fault::TypeFault;
 use crate::laws::expression_law;
-use crate::messages::wrong_argument;
-use crate::nodes::{and, arith, between, compare, is_in, like, or, xor};
+use crate::nodes::{and, arith, between, compare, is_in, is_null, like, neg, not, or, xor};
+use crate::place::Place;
 use crate::scope::Scope;
-use crate::typed::{Func, TypedExpr};
+use crate::typed::{AggName, Func, TypedExpr};
 use mc_ast::{Expr, Form};
-use mc_base::List;
+use mc_base::{List, Text};
 use mc_catalog::Catalog;
 use std::alloc::Global;
 
@@ -38,8 +47,8 @@ pub(crate) fn put(
     xs: &mut List<TypedExpr>,
 ) -> Result<(), TypeFault>
     requires scope { IsScope c.now s }
-    ensures { (t : Typing) → IsWanted typed t
-        → IsLeft result xs.new (with_operand c.now s callee xs.old t) }
+    ensures { (number : ℕ) (t : Result (TypedExpr × ℕ) Refusal) → IsMade typed number t
+        → IsLeft result (xs.new, number) (with_operand c.now s callee xs.old t) }
 {
     let x = typed?;
     let x = turned(alloc, c, s, turns_to_text(callee, xs.len()), x)?;
@@ -47,33 +56,59 @@ pub(crate) fn put(
     Ok(())
 }
 
-/// COUNT(DISTINCT) of an operand. It has no place so far.
-pub(crate) fn count_distinct(alloc: Global, _x: TypedExpr) -> Result<TypedExpr, TypeFault>
-    ensures { IsWanted result (Err (wrong_argument (codes "count"))) }
-{
-    Err(refused(wrong_argument(alloc, b"count")))
-}
-
-/// The typed expression of a form whose operands are typed.
-fn node_of(
+/// The typed expression of a form with one operand, which is typed.
+pub(crate) fn single(
     alloc: Global,
     c: &Catalog,
     s: Scope,
+    place: Place,
+    number: u32,
     form: &Form,
-    xs: List<TypedExpr>,
+    x: TypedExpr,
 ) -> Result<TypedExpr, TypeFault>
     requires scope { IsScope c.now s }
-    requires shape { shape_of (out-Form form.now) ≡ Several }
-    requires operands { operands c.now s (taker_of (out-Form form.now))
-        (map (typing c.now s) (parts (out-Form form.now))) ≡ Ok xs }
-    ensures { IsWanted result (typing_form c.now s form.now) }
+    requires shape { shape_of (out-Form form.now) ≡ Single }
+    ensures { IsWanted result (typed_node c.now s place number (out-Form form.now) (x ∷ [])) }
 {
-    expression_law();
-    node_over(alloc, c, s, form, xs)
+    match form {
+        Form::Not(_) => not(alloc, x),
+        Form::Neg(_) => neg(alloc, x),
+        Form::IsNull { negated, .. } => is_null(alloc, *negated, x),
+        Form::Collate { name, .. } => collate(alloc, c, s, name, x),
+        Form::Convert { set, .. } => convert(alloc, c, s, set.as_slice(), x),
+        Form::CastChar { set, .. } => cast_char(alloc, c, s, set, x),
+        Form::CastBinary(_) => cast_to_bytes(alloc, c, s, x),
+        Form::CountDistinct(_) => {
+            aggregate(alloc, place, number, b"count", AggName::Count, true, x)
+        }
+        Form::WeightString { cut, .. } => weights(alloc, *cut, x),
+        Form::Call { name, .. } => call_aggregate(alloc, place, number, name, x),
+        _ => unreachable!(),
+    }
 }
 
-/// The same where each operand has a type of the catalog.
-fn node_over(
+/// An aggregate that is called by its name, of its argument.
+fn call_aggregate(
+    alloc: Global,
+    place: Place,
+    number: u32,
+    name: &Text,
+    x: TypedExpr,
+) -> Result<TypedExpr, TypeFault>
+    requires { is_aggregate (callee_of name.now) ≡ true }
+    ensures { (c : Catalog) (s : Scope)
+        → IsWanted result (call c s place number name.now (callee_of name.now) (x ∷ [])) }
+{
+    match callee_of(name.as_slice()) {
+        Some(Callee::Aggregate(which)) => {
+            aggregate(alloc, place, number, name.as_slice(), which, false, x)
+        }
+        _ => unreachable!(),
+    }
+}
+
+/// The typed expression of a form with several operands, which are typed.
+fn several(
     alloc: Global,
     c: &Catalog,
     s: Scope,
@@ -83,9 +118,9 @@ fn node_over(
     requires scope { IsScope c.now s }
     requires typed { AreTyped c.now xs }
     requires shape { shape_of (out-Form form.now) ≡ Several }
-    requires operands { operands c.now s (taker_of (out-Form form.now))
-        (map (typing c.now s) (parts (out-Form form.now))) ≡ Ok xs }
-    ensures { IsWanted result (typing_form c.now s form.now) }
+    requires many { length xs ≡ length (parts (out-Form form.now)) }
+    ensures { (place : Place) (number : ℕ)
+        → IsWanted result (typed_node c.now s place number (out-Form form.now) xs) }
 {
     match form {
         Form::Or(_) => or(alloc, xs),
@@ -109,24 +144,32 @@ fn node_over(
     }
 }
 
-/// The typed expression of a tree whose operands were typed into a list, or the refusal of the
-/// first that is refused.
+/// The typed expression of a form whose operands were typed into a list, their aggregates numbered
+/// from one number to another, or the refusal of the first that is refused.
 pub(crate) fn finish(
     alloc: Global,
     c: &Catalog,
     s: Scope,
-    e: &Expr,
+    groups: &[Expr],
+    place: Place,
+    first: u32,
+    next: u32,
+    form: &Form,
     done: Result<(), TypeFault>,
     xs: List<TypedExpr>,
 ) -> Result<TypedExpr, TypeFault>
     requires scope { IsScope c.now s }
-    requires shape { shape_of (out-Form e.now.form) ≡ Several }
-    requires operands { IsLeft done xs (with_operands c.now s (taker_of (out-Form e.now.form)) []
-        (map (typing c.now s) (parts (out-Form e.now.form)))) }
-    ensures { IsWanted result (typing c.now s e.now) }
+    requires shape { shape_of (out-Form form.now) ≡ Several }
+    requires operands { IsLeft done (xs, next) (with_operands c.now s groups.now
+        (place_below place (out-Form form.now)) (taker_of (out-Form form.now)) [] first
+        (parts (out-Form form.now))) }
+    ensures { IsMade result next
+        (numbered_form c.now s groups.now place first (out-Form form.now)) }
 {
+    let _groups = groups;
+    expression_law();
     match done {
-        Ok(_) => node_of(alloc, c, s, &e.form, xs),
+        Ok(_) => several(alloc, c, s, form, xs),
         Err(fault) => Err(fault),
     }
 }

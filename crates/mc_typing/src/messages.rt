@@ -11,6 +11,7 @@ ghost use Rattle.mc_typing.specs.Messages.{
   no_function,
   no_set,
   no_table,
+  not_grouped,
   operation_end,
   other_set,
   other_set_named,
@@ -70,6 +71,14 @@ pub(crate) fn no_column(alloc: Global, name: &[u8]) -> Result<Refusal, NoMemory>
 {
     let text = joined(alloc, b"Unknown column '", name, b"'")?;
     Ok(Refusal { number: 1054, text })
+}
+
+/// No expression that rows are grouped by is the column of this name, or has it.
+pub(crate) fn not_grouped(alloc: Global, name: &[u8]) -> Result<Refusal, NoMemory>
+    ensures { IfOk result (λ refusal. refusal ≡ not_grouped name.now) }
+{
+    let text = joined(alloc, b"Column '", name, b"' is not grouped")?;
+    Ok(Refusal { number: 1055, text })
 }
 
 /// No set has this name.

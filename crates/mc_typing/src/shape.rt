@@ -1,7 +1,9 @@
 ghost use Rattle.mc_ast.specs.declared.expr.Form.TheViews.{out-Form};
-ghost use Rattle.mc_typing.specs.Walk.{shape_of};
+ghost use Rattle.mc_typing.specs.Functions.{callee_of};
+ghost use Rattle.mc_typing.specs.Walk.{call_shape, shape_of};
 ghost use Rattle.std.specs.Prelude.{◌≡◌};
 
+use crate::callee::{callee_of, is_aggregate};
 use mc_ast::Form;
 
 /// How many operands a form has.
@@ -10,6 +12,17 @@ pub(crate) enum Shape {
     Leaf,
     Single,
     Several,
+}
+
+/// How many operands a call takes: an aggregate takes one by itself.
+fn call_shape(name: &[u8], count: usize) -> Shape
+    ensures { result ≡ call_shape (callee_of name.now) count }
+{
+    if is_aggregate(callee_of(name)) && count == 1 {
+        Shape::Single
+    } else {
+        Shape::Several
+    }
 }
 
 /// How many operands the form has.
@@ -26,8 +39,8 @@ pub(crate) fn shape_of(form: &Form) -> Shape
         | Form::Between { .. }
         | Form::Arith { .. }
         | Form::Trim { .. }
-        | Form::SubstringFrom { .. }
-        | Form::Call { .. } => Shape::Several,
+        | Form::SubstringFrom { .. } => Shape::Several,
+        Form::Call { name, args } => call_shape(name.as_slice(), args.len()),
         Form::Not(_)
         | Form::IsNull { .. }
         | Form::Neg(_)

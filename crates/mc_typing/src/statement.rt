@@ -2,28 +2,26 @@ ghost use Rattle.mc_ast.specs.Texts.{HasUtf8Strings};
 ghost use Rattle.mc_catalog.specs.Lawful.{IsLawful};
 ghost use Rattle.mc_typing.specs.Scope.{IsScope};
 ghost use Rattle.mc_typing.specs.SoundStatements.{IsSoundStatement};
-ghost use Rattle.mc_typing.specs.Statements.{
-  IsUngrouped,
-  scope_in,
-  typed_statement,
-};
+ghost use Rattle.mc_typing.specs.Statements.{scope_in, typed_in, typed_statement};
 ghost use Rattle.mc_typing.specs.Wanted.{IsWanted};
-ghost use Rattle.mc_typing.specs.Whole.{scope_named, typed_parts};
+ghost use Rattle.mc_typing.specs.Whole.{scope_named};
 ghost use Rattle.std.specs.Prelude.{◌≡◌, ◌<◌, ◌^◌, IfOk, IfSome, length, position};
 ghost use Rattle.std.specs.Str.{bytes_eq};
 
 use crate::conjuncts::where_of;
 use crate::fault::{TypeFault, refused};
+use crate::grouping::is_grouped;
+use crate::groups::group_keys;
 use crate::headers::headers;
 use crate::items::{all_items, star_columns};
 use crate::laws::typing_law;
 use crate::messages::no_table;
-use crate::orders::order_keys;
+use crate::orders::all_keys;
 use crate::scope::Scope;
 use crate::session::Session;
 use crate::typed::Typed;
 use mc_ast::Statement;
-use mc_base::{List, Text};
+use mc_base::Text;
 use mc_catalog::{Catalog, TableDecl};
 use mc_charset::CollId;
 use std::alloc::Global;
@@ -95,13 +93,15 @@ fn typed_in(
 ) -> Result<Typed, TypeFault>
     requires scope { IsScope c.now s }
     requires strings { HasUtf8Strings statement.now }
-    ensures is { IsWanted result (typed_parts script.now statement.now c.now s) }
+    ensures is { IsWanted result (typed_in script.now statement.now c.now s) }
     ensures distinct { IfOk result (λ t. t.distinct ≡ statement.now.distinct) }
 {
-    let own = statement.items.as_slice();
-    let items = all_items(alloc, c, s, statement)?;
+    let mut next = 0;
+    let items = all_items(alloc, c, s, statement, &mut next)?;
     let conjuncts = where_of(alloc, c, s, &statement.filter)?;
-    let orders = order_keys(alloc, c, s, own, statement.orders.as_slice())?;
+    let groups = group_keys(alloc, c, s, statement.groups.as_slice())?;
+    let orders = all_keys(alloc, c, s, statement, &mut next)?;
+    let own = statement.items.as_slice();
     let header = headers(alloc, script, star_columns(c, s, statement.star), own)?;
     Ok(Typed {
         explain: statement.explain,
@@ -110,8 +110,8 @@ fn typed_in(
         header,
         items,
         conjuncts,
-        grouped: false,
-        groups: List::new(alloc),
+        grouped: is_grouped(statement),
+        groups,
         orders,
         limit: statement.limit,
     })
@@ -137,9 +137,9 @@ fn typed(
 }
 
 /// Types a statement of a script, or refuses it: for want of its table first, then by the first
-/// node that is refused, operands before their operation, through the items, WHERE and ORDER BY.
-/// The script gives the headers of items without an alias. So far the statement has no aggregate
-/// and no GROUP BY. MySQL 8.0 manual, 13.2.10 and 10.8.4.
+/// node that is refused, operands before their operation, through the items, WHERE, GROUP BY and
+/// ORDER BY. The script gives the headers of items without an alias. MySQL 8.0 manual, 13.2.10,
+/// 10.8.4 and 12.19.3.
 pub fn type_statement(
     alloc: Global,
     statement: &Statement,
@@ -150,7 +150,6 @@ pub fn type_statement(
     requires lawful { IsLawful c.now }
     requires connection { session.now.connection.0 < length c.now.collations }
     requires strings { HasUtf8Strings statement.now }
-    requires ungrouped { IsUngrouped statement.now }
     ensures is { IsWanted result (typed_statement script.now statement.now c.now session.now) }
     ensures sound { IfOk result (IsSoundStatement c.now) }
     ensures distinct { IfOk result (λ t. t.distinct ≡ statement.now.distinct) }

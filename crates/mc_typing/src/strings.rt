@@ -1,6 +1,6 @@
 ghost use Rattle.mc_ast.specs.Texts.{HasUtf8};
 ghost use Rattle.mc_ast.specs.declared.expr.Form.TheViews.{out-Form};
-ghost use Rattle.mc_typing.specs.Exprs.{parts};
+ghost use Rattle.mc_typing.specs.Forms.{parts};
 ghost use Rattle.std.specs.List.{AllByRecursion};
 
 use mc_ast::Expr;

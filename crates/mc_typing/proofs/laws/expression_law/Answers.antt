@@ -1,5 +1,5 @@
 use Rattle.mc_typing.proofs.Known.{Known}
-use Rattle.mc_typing.proofs.SoundTyping.{typing_sound, typing_typed}
+use Rattle.mc_typing.proofs.SoundTyping.{typing_typed}
 use Rattle.mc_typing.proofs.laws.expression_law.Goals as goal
 
 pub returns : goal.returns
@@ -11,4 +11,4 @@ returns c =
       operand = c.result_law.ensures.operand;
       collation = c.result_law.ensures.collation;
     } in
-    record { typed = typing_typed known; sound = typing_sound known }
+    typing_typed known

@@ -2,6 +2,7 @@ use Rattle.std.proofs.Common.{◌≡◌, true}
 use Rattle.mc_typing.specs.declared.typed.TypedExpr.{TypedExpr}
 use Rattle.mc_typing.proofs.SoundInduction.{sound_induction}
 use Rattle.mc_typing.proofs.SoundTrees.{sound_all, sound_again, sound_here}
+use Rattle.mc_typing.proofs.Ungrouped.{aggregate_types_is, none_in, sound_any}
 use Rattle.mc_typing.proofs.laws.sound_law.Goals as goal
 
 pub returns : goal.returns
@@ -12,4 +13,7 @@ returns c = record {
   made = sound_again;
   tests = λ cat columns aggregates p step. sound_induction cat columns aggregates
       (λ (x : TypedExpr). p x ≡ true) step;
+  types = aggregate_types_is;
+  none = none_in;
+  any = sound_any;
 }
