@@ -39,7 +39,7 @@ like_step like xs i x first old new h e w more = record {
   later = omega (arith, w.later, more.later);
 }
 
-at_default : {A : Type 0} (xs : List A) (i : ℕ) (d : A) → i < length xs
+pub at_default : {A : Type 0} (xs : List A) (i : ℕ) (d : A) → i < length xs
     → get_or xs i d ≡ get_or xs i (get_or xs i d)
 at_default xs i d h = get_or_default xs i d (get_or xs i d) h
 
@@ -49,7 +49,8 @@ module _ {A B : Type 0} (given : A → Option B) where
       ≡ option_and_then (λ more. with_all given more rest) (appended found o)
   unfolding with_all
   opened found x rest None e = ap (option_and_then (λ it. with_all given (found ++ it ∷ []) rest)) e
-  opened found x rest (Some it) e = ap (option_and_then (λ it. with_all given (found ++ it ∷ []) rest)) e
+  opened found x rest (Some it) e = ap (option_and_then (λ it. with_all given
+      (found ++ it ∷ []) rest)) e
 
   -- So far the list has what these members give.
   pub record IsFilled (xs : List A) (first : List B) (i : ℕ) (found : List B) : Type 0 where
@@ -96,8 +97,12 @@ module _ {A B : Type 0} (given : A → Option B) where
   with_all_is found [] = ap (λ l. Some l) (sym (append_empty found))
   with_all_is found (x ∷ xs) = elim (given x) as (λ o.
       option_and_then (λ it. with_all given (found ++ it ∷ []) xs) o
-      ≡ behind found (option_and_then (λ one. option_map (λ others. one ∷ others) (all_of given xs)) o))
-      [ None ↦ refl | Some it ↦ with_all_is (found ++ it ∷ []) xs ∙ moved found it (all_of given xs) ]
+      ≡ behind found (option_and_then (λ one. option_map (λ others. one ∷ others)
+      (all_of given xs)) o)) [
+        | None ↦ refl
+        | Some it ↦ with_all_is (found ++ it ∷ []) xs ∙ moved found it
+            (all_of given xs)
+      ]
 
   same : (o : Option (List B)) → behind [] o ≡ o
   same None = refl
@@ -105,6 +110,11 @@ module _ {A B : Type 0} (given : A → Option B) where
 
   pub all_filled : (xs : List A) → with_all given [] xs ≡ all_of given xs
   all_filled xs = with_all_is [] xs ∙ same (all_of given xs)
+
+  pub keys_filled : (xs : List A) (start : List B) → start ≡ [] → (o : Option (List B))
+      → with_all given start xs ≡ o → all_of given xs ≡ o
+  keys_filled xs start e o h =
+      sym (all_filled xs) ∙ (ap (λ l. with_all given l xs) (sym e) ∙ h)
 
   -- A list that is filled from nothing, behind others.
   pub put_filled : (found : List (List B)) (xs : List A) (start values : List B)

@@ -4,7 +4,7 @@ use Rattle.std.proofs.Common.{sym, subst}
 use Rattle.std.proofs.Common.{◌∙◌, cond, map}
 use Rattle.std.proofs.lemmas.List.Elements.{All-from_recursion, All-map, All-weaker}
 use Rattle.std.proofs.lemmas.List.Elements.{recursion_from_All}
-use Rattle.std.specs.List.{AllByRecursion, list_any}
+use Rattle.std.specs.List.{AllByRecursion, AllZip, list_any}
 use Rattle.std.specs.Prelude.{All, Option, filter, option_and_then, option_map}
 use Rattle.std.specs.Prelude.{if◌then◌else◌}
 use Rattle.mc_catalog.specs.Fits.{FitsCatalog}
@@ -27,13 +27,16 @@ use Rattle.mc_typing.specs.declared.typed.Typed.{Typed}
 use Rattle.mc_typing.specs.declared.typed.TypedExpr.{TypedExpr}
 use Rattle.mc_typing.specs.declared.typed.TypedOrder.{TypedOrder}
 use Rattle.mc_typing.specs.Sound.{IsSound}
-use Rattle.mc_typing.specs.SoundStatements.{IsSoundStatement, row_types, statement_aggregates}
 use Rattle.mc_values.specs.declared.value.Value.{Value}
 use Rattle.mc_values.specs.declared.value.Value.TheVariants as v
-use Rattle.mc_exec.specs.Given.{all_of, given, keys_in, keys_of, value_in}
+use Rattle.mc_exec.specs.Given.{Subject, all_of, given, keys_in, keys_of, value_in}
+use Rattle.mc_exec.specs.Given.{values_in}
+use Rattle.mc_exec.specs.Shown.{line_in}
+use Rattle.mc_exec.specs.Grouped.{value_kinds}
 use Rattle.mc_exec.specs.Kept.{is_faulty, is_yes, kept}
 use Rattle.mc_exec.specs.Ordered.{kind_of, kinds_of}
-use Rattle.mc_exec.specs.Steps.{IsReadable}
+use Rattle.mc_exec.specs.Ready.{GiveKinds, IsShowable, KeysGiveKinds}
+use Rattle.mc_exec.proofs.LineLists.{first_and_others, line_items}
 
 -- A kept value of a type is of the kind, where the meanings have the sets of the catalog.
 pub of_kind : (meaning : ℕ → Meaning) (c : Catalog) (count : ℕ)
@@ -57,58 +60,10 @@ in_book c count set f ty.Null t = tt
 in_book c count set f ty.Int t = tt
 in_book c count set f (ty.Str a) t = subst (λ n. a.collation.0 < n) (sym f.counted) t.within
 
-given_type : (type : Ty) (o : Outcome) (it : Value) → given o ≡ Some it → GivesType type o
+pub given_type : (type : Ty) (o : Outcome) (it : Value) → given o ≡ Some it → GivesType type o
     → HasType type it
 given_type type fault it e h = absurd (cc)
 given_type type (gives x) it e h = let same : x ≡ it = cc in subst (HasType type) same h
-
--- Each key gives values of its type in the row.
-abbrev pub GivesTypes : (ℕ → Meaning) → List Value → List TypedOrder → Type 0
-GivesTypes meaning row orders =
-    AllByRecursion (λ key. GivesType key.expr.ty (value (place row [] meaning) key.expr)) orders
-
-parts_of : {B : Type 0} (o : Option B) (p : Option (List B)) (ks : List B)
-    → option_and_then (λ first. option_map (λ others. first ∷ others) p) o ≡ Some ks
-    → (x : B) × ((rest : List B) × (o ≡ Some x) × (p ≡ Some rest) × (x ∷ rest ≡ ks))
-parts_of None p ks e = absurd (cc)
-parts_of (Some x) None ks e = absurd (cc)
-parts_of (Some x) (Some rest) ks e = (x, (rest, refl, refl, cc))
-
-key_values : (meaning : ℕ → Meaning) (c : Catalog) (count : ℕ)
-    → FitsCatalog c count (λ id. (meaning id).charset) → (row : List Value)
-    → (orders : List TypedOrder) → AllByRecursion (λ key. IsTyOf c key.expr.ty) orders
-    → GivesTypes meaning row orders → (keys : List Value) → AllByRecursion IsKept keys
-    → keys_in meaning orders row ≡ Some keys → IsKeyRow meaning (kinds_of orders) keys
-unfolding all_of
-key_values meaning c count f row [] t g [] k e = tt
-key_values meaning c count f row [] t g (x ∷ keys) k e = absurd (cc)
-key_values meaning c count f row (key ∷ orders) t g keys k e =
-    let p = parts_of (value_in meaning row key.expr) (keys_in meaning orders row) keys e in
-    let each : AllByRecursion IsKept (p.0 ∷ p.1.0) = subst (AllByRecursion IsKept) (sym p.1.3) k in
-    subst (λ ks. IsKeyRow meaning (kinds_of (key ∷ orders)) ks) p.1.3 (
-      of_kind meaning c count f key.expr.ty p.0 t.0
-          (given_type key.expr.ty (value (place row [] meaning) key.expr) p.0 p.1.1 g.0) each.0,
-      key_values meaning c count f row orders t.1 g.1 p.1.0 each.1 p.1.2,
-    )
-
-key_rows : (meaning : ℕ → Meaning) (c : Catalog) (count : ℕ)
-    → FitsCatalog c count (λ id. (meaning id).charset)
-    → (orders : List TypedOrder) → AllByRecursion (λ key. IsTyOf c key.expr.ty) orders
-    → (rows : List (List Value)) → AllByRecursion (λ row. GivesTypes meaning row orders) rows
-    → (keys : List (List Value)) → AllByRecursion (All IsKept) keys
-    → keys_of meaning orders rows ≡ Some keys
-    → AllByRecursion (IsKeyRow meaning (kinds_of orders)) keys
-unfolding all_of
-key_rows meaning c count f orders t [] g [] k e = tt
-key_rows meaning c count f orders t [] g (x ∷ keys) k e = absurd (cc)
-key_rows meaning c count f orders t (row ∷ rows) g keys k e =
-    let p = parts_of (keys_in meaning orders row) (keys_of meaning orders rows) keys e in
-    let each : AllByRecursion (All IsKept) (p.0 ∷ p.1.0) =
-    subst (AllByRecursion (All IsKept)) (sym p.1.3) k in
-    subst (AllByRecursion (IsKeyRow meaning (kinds_of orders))) p.1.3 (
-      key_values meaning c count f row orders t g.0 p.0 (recursion_from_All IsKept p.0 each.0) p.1.1,
-      key_rows meaning c count f orders t rows g.1 p.1.0 each.1 p.1.2,
-    )
 
 -- What is proved of sound expressions.
 abbrev pub AreTyped : Type 0
@@ -120,28 +75,86 @@ GiveTypes = (c : Catalog) (columns aggregates : List Ty) (p : Place) (e : TypedE
     → IsSound c columns aggregates e → IsRowOf columns p.row → IsRowOf aggregates p.aggregates
     → GivesType e.ty (value p e)
 
-no_aggregates : (types : List Ty) → types ≡ [] → IsRowOf types []
-no_aggregates types e = subst (λ (l : List Ty). IsRowOf l []) (sym e) (λ place type h. absurd (cc))
+-- What holds of what comes of each member.
+each_of : {A B : Type 0} (given : A → Option B) (P : A → Type 0) (K Q : B → Type 0)
+    → ((x : A) (y : B) → P x → given x ≡ Some y → K y → Q y) → (xs : List A) (ys : List B)
+    → all_of given xs ≡ Some ys → AllByRecursion P xs → AllByRecursion K ys → AllByRecursion Q ys
+unfolding all_of
+each_of given P K Q step [] [] e p k = tt
+each_of given P K Q step [] (y ∷ ys) e p k = absurd (cc)
+each_of given P K Q step (x ∷ xs) ys e p k =
+    let parts = first_and_others (given x) (all_of given xs) ys e in
+    let each : AllByRecursion K (parts.0 ∷ parts.1.0) = subst (AllByRecursion K) parts.1.3 k in
+    subst (AllByRecursion Q) (sym parts.1.3) (
+      step x parts.0 p.0 parts.1.1 each.0,
+      each_of given P K Q step xs parts.1.0 parts.1.2 p.1 each.1,
+    )
 
-pub keys_are : AreTyped → GiveTypes → (meaning : ℕ → Meaning) (c : Catalog) (count : ℕ)
-    → FitsCatalog c count (λ id. (meaning id).charset) → (q : Typed) → IsSoundStatement c q
-    → (rows : List (List Value)) → All (IsReadable c q.table) rows → (keys : List (List Value))
-    → keys_of meaning q.orders rows ≡ Some keys → All (All IsKept) keys
+pub each_given : {A B : Type 0} (given : A → Option B) (P : A → Type 0) (K Q : B → Type 0)
+    → ((x : A) (y : B) → P x → given x ≡ Some y → K y → Q y) → (xs : List A) (ys : List B)
+    → all_of given xs ≡ Some ys → All P xs → All K ys → All Q ys
+each_given given P K Q step xs ys e p k = All-from_recursion Q ys
+    (each_of given P K Q step xs ys e (recursion_from_All P xs p) (recursion_from_All K ys k))
+
+-- What holds of the kind of each member and of what comes of it.
+pub kinds_given : {A B C : Type 0} (given : A → Option B) (kind : A → C) (P : A → Type 0)
+    (K : B → Type 0) (R : C → B → Type 0)
+    → ((x : A) (y : B) → P x → given x ≡ Some y → K y → R (kind x) y) → (xs : List A) (ys : List B)
+    → all_of given xs ≡ Some ys → AllByRecursion P xs → AllByRecursion K ys
+    → AllZip R (map kind xs) ys
+unfolding all_of
+kinds_given given kind P K R step [] [] e p k = tt
+kinds_given given kind P K R step [] (y ∷ ys) e p k = absurd (cc)
+kinds_given given kind P K R step (x ∷ xs) ys e p k =
+    let parts = first_and_others (given x) (all_of given xs) ys e in
+    let each : AllByRecursion K (parts.0 ∷ parts.1.0) = subst (AllByRecursion K) parts.1.3 k in
+    subst (AllZip R (map kind (x ∷ xs))) (sym parts.1.3) (
+      step x parts.0 p.0 parts.1.1 each.0,
+      kinds_given given kind P K R step xs parts.1.0 parts.1.2 p.1 each.1,
+    )
+
+-- The values of a sound expression are of its kind.
+pub value_kind : AreTyped → GiveTypes → (meaning : ℕ → Meaning) (c : Catalog) (count : ℕ)
+    → FitsCatalog c count (λ id. (meaning id).charset) → (columns aggregates : List Ty)
+    (s : Subject) → IsRowOf columns s.row → IsRowOf aggregates s.aggregates → (e : TypedExpr)
+    (it : Value) → IsSound c columns aggregates e → value_in meaning s e ≡ Some it → IsKept it
+    → IsOfKind meaning (kind_of e.ty) it
+value_kind typed types meaning c count f columns aggregates s r a e it h is k =
+    let p = place s.row s.aggregates meaning in
+    of_kind meaning c count f e.ty it (typed c columns aggregates e h)
+    (given_type e.ty (value p e) it is (types c columns aggregates p e h r a)) k
+
+pub give_kinds : AreTyped → GiveTypes → (meaning : ℕ → Meaning) (c : Catalog) (count : ℕ)
+    → FitsCatalog c count (λ id. (meaning id).charset) → (columns aggregates : List Ty)
+    (s : Subject) → IsRowOf columns s.row → IsRowOf aggregates s.aggregates
+    → (exprs : List TypedExpr) → All (IsSound c columns aggregates) exprs
+    → GiveKinds meaning exprs s
+give_kinds typed types meaning c count f columns aggregates s r a exprs h values e k =
+    kinds_given (value_in meaning s) (λ x. kind_of x.ty) (IsSound c columns aggregates) IsKept
+    (IsOfKind meaning) (value_kind typed types meaning c count f columns aggregates s r a)
+    exprs values e (recursion_from_All (IsSound c columns aggregates) exprs h)
+    (recursion_from_All IsKept values k)
+
+pub keys_give_kinds : AreTyped → GiveTypes → (meaning : ℕ → Meaning) (c : Catalog) (count : ℕ)
+    → FitsCatalog c count (λ id. (meaning id).charset) → (columns aggregates : List Ty)
+    (s : Subject) → IsRowOf columns s.row → IsRowOf aggregates s.aggregates
+    → (orders : List TypedOrder) → All (λ key. IsSound c columns aggregates key.expr) orders
+    → KeysGiveKinds meaning orders s
+keys_give_kinds typed types meaning c count f columns aggregates s r a orders h values e k =
+    let sound : TypedOrder → Type 0 = λ key. IsSound c columns aggregates key.expr in
+    kinds_given (λ (key : TypedOrder). value_in meaning s key.expr)
+    (λ (key : TypedOrder). kind_of key.expr.ty) sound IsKept (IsOfKind meaning)
+    (λ key it. value_kind typed types meaning c count f columns aggregates s r a key.expr it)
+    orders values e (recursion_from_All sound orders h) (recursion_from_All IsKept values k)
+
+-- The keys of subjects that can be shown are of their kinds, and so are their items.
+pub key_rows : (meaning : ℕ → Meaning) (q : Typed) (subjects : List Subject)
+    (keys : List (List Value)) → All (IsShowable meaning q) subjects
+    → keys_of meaning q.orders subjects ≡ Some keys → All (All IsKept) keys
     → All (IsKeyRow meaning (kinds_of q.orders)) keys
-keys_are typed types meaning c count f q s rows r keys e k =
-    let sound : TypedOrder → Type 0 = λ key.
-    IsSound c (row_types c q.table) (statement_aggregates q) key.expr in
-    let ty_of : TypedOrder → Type 0 = λ key. IsTyOf c key.expr.ty in
-    let ts = recursion_from_All ty_of q.orders (All-weaker sound ty_of
-    (λ key h. typed c (row_types c q.table) (statement_aggregates q) key.expr h) q.orders s.orders) in
-    let gives_row : List Value → Type 0 = λ row. GivesTypes meaning row q.orders in
-    let gs = recursion_from_All gives_row rows (All-weaker (IsReadable c q.table) gives_row
-    (λ row h. recursion_from_All (λ key. GivesType key.expr.ty (value (place row [] meaning) key.expr))
-    q.orders (All-weaker sound (λ key. GivesType key.expr.ty (value (place row [] meaning) key.expr))
-    (λ key m. types c (row_types c q.table) (statement_aggregates q) (place row [] meaning) key.expr
-    m h.typed (no_aggregates (statement_aggregates q) s.plain.aggregates)) q.orders s.orders)) rows r) in
-    All-from_recursion (IsKeyRow meaning (kinds_of q.orders)) keys
-    (key_rows meaning c count f q.orders ts rows gs keys (recursion_from_All (All IsKept) keys k) e)
+key_rows meaning q subjects keys h e k = each_given (keys_in meaning q.orders)
+    (IsShowable meaning q) (All IsKept) (IsKeyRow meaning (kinds_of q.orders))
+    (λ s row p. p.keys row) subjects keys e h k
 
 filtered : {R : Type 0} (P : R → Type 0) (p : R → Bool) (rows : List R) → AllByRecursion P rows
     → AllByRecursion P (filter p rows)
@@ -174,13 +187,42 @@ pub lent : {A : Type 0} (P : A → Type 0) (rows : List (Bor A))
 lent {A = A} P rows h = All-from_recursion (λ (r : Bor A). P r.now) rows
     (lent_each P rows (recursion_from_All P (map (λ (r : Bor A). r.now) rows) h))
 
--- The kinds of keys are in the book.
-pub kinds_in_book : AreTyped → (c : Catalog) (count : ℕ) (set : ℕ → Charset) → FitsCatalog c count set
-    → (q : Typed) → IsSoundStatement c q → All (IsInBook count) (kinds_of q.orders)
-kinds_in_book typed c count set f q s =
-    let sound : TypedOrder → Type 0 = λ key.
-    IsSound c (row_types c q.table) (statement_aggregates q) key.expr in
-    All-map (IsInBook count) (λ (key : TypedOrder). kind_of key.expr.ty) q.orders
-    (All-weaker sound (λ key. IsInBook count (kind_of key.expr.ty))
-    (λ key h. in_book c count set f key.expr.ty
-    (typed c (row_types c q.table) (statement_aggregates q) key.expr h)) q.orders s.orders)
+pub item_rows : (meaning : ℕ → Meaning) (q : Typed) (subjects : List Subject)
+    (rows : List (List Value)) → All (IsShowable meaning q) subjects
+    → all_of (λ s. option_map (λ l. l.items) (line_in meaning q s)) subjects ≡ Some rows
+    → All (All IsKept) rows → All (IsKeyRow meaning (value_kinds q.items)) rows
+item_rows meaning q subjects rows h e k =
+    each_given (λ s. option_map (λ l. l.items) (line_in meaning q s))
+    (IsShowable meaning q) (All IsKept) (IsKeyRow meaning (value_kinds q.items))
+    (λ s row p is. p.items row (line_items (values_in meaning q.items s)
+    (keys_in meaning q.orders s) row is)) subjects rows e h k
+
+-- The kinds of expressions and of keys are in the book.
+pub value_kinds_in_book : AreTyped → (c : Catalog) (count : ℕ) (set : ℕ → Charset)
+    → FitsCatalog c count set → (columns aggregates : List Ty) (exprs : List TypedExpr)
+    → All (IsSound c columns aggregates) exprs → All (IsInBook count) (value_kinds exprs)
+value_kinds_in_book typed c count set f columns aggregates exprs h =
+    All-map (IsInBook count) (λ (e : TypedExpr). kind_of e.ty) exprs
+    (All-weaker (IsSound c columns aggregates) (λ e. IsInBook count (kind_of e.ty))
+    (λ e k. in_book c count set f e.ty (typed c columns aggregates e k)) exprs h)
+
+pub kinds_in_book : AreTyped → (c : Catalog) (count : ℕ) (set : ℕ → Charset)
+    → FitsCatalog c count set → (columns aggregates : List Ty) (orders : List TypedOrder)
+    → All (λ key. IsSound c columns aggregates key.expr) orders
+    → All (IsInBook count) (kinds_of orders)
+kinds_in_book typed c count set f columns aggregates orders h =
+    All-map (IsInBook count) (λ (key : TypedOrder). kind_of key.expr.ty) orders
+    (All-weaker (λ key. IsSound c columns aggregates key.expr)
+    (λ key. IsInBook count (kind_of key.expr.ty))
+    (λ key k. in_book c count set f key.expr.ty (typed c columns aggregates key.expr k)) orders h)
+
+seen_each : {A : Type 0} (P : A → Type 0) (l : List (Bor A))
+    → AllByRecursion (λ (r : Bor A). P r.now) l → AllByRecursion P (map (λ (r : Bor A). r.now) l)
+seen_each P [] h = tt
+seen_each P (r ∷ l) h = (h.0, seen_each P l h.1)
+
+-- What holds of rows that are lent holds of the rows.
+pub seen_all : {A : Type 0} (P : A → Type 0) (rows : List (Bor A))
+    → All (λ (r : Bor A). P r.now) rows → All P (map (λ (r : Bor A). r.now) rows)
+seen_all {A = A} P rows h = All-from_recursion P (map (λ (r : Bor A). r.now) rows)
+    (seen_each P rows (recursion_from_All (λ (r : Bor A). P r.now) rows h))

@@ -1,5 +1,16 @@
+pub mod Firsts
+pub mod LineLists
+pub mod Extreme
+pub mod CountRows
+pub mod DistinctLines
+pub mod Parted
+pub mod GroupRows
+pub mod NoLike
+pub mod AggregateTrees
+pub mod Combined
 pub mod Scans
 pub mod Filled
+pub mod Standing
 pub mod Lengths
 pub mod Readable
 pub mod Rows
@@ -8,4 +19,5 @@ pub mod Placed
 pub mod Limits
 pub mod ShownRows
 pub mod KeyRows
+pub mod SoundParts
 pub mod Places

@@ -1,20 +1,26 @@
 -- Rows that are lent, at a place and as the source of a statement.
 use Rattle.std.proofs.Common.{◌≡◌, ℕ, ◌<◌, Bor, List, [], ◌∷◌, None, Some, refl, sym, ap, ◌∙◌}
 use Rattle.std.proofs.Common.{subst}
-use Rattle.std.proofs.Common.{get_or, length, map}
-use Rattle.std.proofs.lemmas.List.{get_or-map}
+use Rattle.std.proofs.Common.{arith, get_or, length, map}
+use Rattle.std.proofs.lemmas.List.{get_or-map, get_or_default, length-map}
 use Rattle.std.specs.Prelude.{All, Option, option_and_then, slice_get, unwrap_or}
 use Rattle.mc_eval.specs.declared.truth.Truth.{Truth}
 use Rattle.mc_values.specs.declared.value.Value.{Value}
+use Rattle.mc_exec.specs.Given.{Subject, alone}
 use Rattle.mc_exec.specs.Kept.{kept}
 use Rattle.mc_exec.specs.Source.{source}
 use Rattle.mc_exec.specs.Steps.{IsReadable, kept_with, with_kept}
 use Rattle.mc_exec.specs.Stored.{Stored}
 use Rattle.mc_exec.proofs.Scans.{all_kept}
 
-pub place_row : (rows : List (Bor (List Value))) (p : ℕ) (r : Bor (List Value)) → p < length rows
-    → r ≡ get_or rows p r → get_or (map (λ b. b.now) rows) p [] ≡ r.now
-place_row rows p r h e = get_or-map (λ (b : Bor (List Value)). b.now) rows p r [] h ∙ ap (λ b. b.now) (sym e)
+-- What holds of each member holds of one at a place.
+pub member : {A : Type 0} (P : A → Type 0) (xs : List A) → All P xs → (i : ℕ) (x : A)
+    → i < length xs → x ≡ get_or xs i x → P x
+member P xs h i x l e = subst P (sym e) (h i x l)
+
+pub place_subject : (subjects : List Subject) (p : ℕ) (s : Subject) → p < length subjects
+    → s ≡ get_or subjects p s → get_or subjects p (alone []) ≡ s
+place_subject subjects p s h e = get_or_default subjects p (alone []) s h ∙ sym e
 
 pub source_is : (t : Stored) (table : Option ℕ) (place : ℕ) (rows : List (List Value))
     → table ≡ Some place → slice_get t.rows place ≡ Some rows → source t table ≡ rows
@@ -40,3 +46,10 @@ pub one_kept : {R : Type 0} (accepted : R → Truth) (row : R)
 unfolding with_kept
 one_kept accepted row = sym (ended accepted (kept_with (accepted row) [] row))
     ∙ all_kept accepted (row ∷ [])
+
+-- The same where it holds of members that are seen through a function.
+pub member_seen : {A B : Type 0} (P : B → Type 0) (seen : A → B) (xs : List A)
+    → All P (map seen xs) → (i : ℕ) (x : A) → i < length xs → x ≡ get_or xs i x → P (seen x)
+member_seen P seen xs h i x l e =
+    subst P (get_or-map seen xs i x (seen x) l ∙ ap seen (sym e))
+    (h i (seen x) (omega (arith, l, length-map xs seen)))

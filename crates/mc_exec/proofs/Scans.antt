@@ -4,9 +4,10 @@ use Rattle.std.proofs.Common.{None, Some, refl, sym, ap, ◌∙◌, append_assoc
 use Rattle.std.proofs.Common.{arith}
 use Rattle.std.proofs.lemmas.List.{drop_all, drop_more}
 use Rattle.std.proofs.lemmas.Option.{get_or_from_slice_get, slice_get_within}
-use Rattle.std.specs.Prelude.{◌||◌, Option, filter, option_and_then, option_map, slice_get}
+use Rattle.std.proofs.lemmas.List.Elements.{recursion_from_All}
+use Rattle.std.specs.Prelude.{All, ◌||◌, Option, filter, option_and_then, option_map, slice_get}
 use Rattle.std.specs.Prelude.{if◌then◌else◌}
-use Rattle.std.specs.List.{list_any}
+use Rattle.std.specs.List.{AllByRecursion, list_any}
 use Rattle.mc_eval.specs.declared.truth.Truth.{Truth}
 use Rattle.mc_eval.specs.declared.truth.Truth.TheVariants.{No, Faulty, Unknown, Yes}
 use Rattle.mc_exec.specs.Kept.{is_faulty, is_yes, kept}
@@ -43,7 +44,8 @@ module _ {R : Type 0} (accepted : R → Truth) where
   with_kept_is found [] = ap (λ rows. Some rows) (sym (append_empty found))
   with_kept_is found (row ∷ rows) = elim (accepted row) as (λ t.
       option_and_then (λ more. with_kept accepted more rows) (kept_with t found row)
-      ≡ after found (is_faulty t || any_faulty rows) (cond (is_yes t) (row ∷ yes rows) (yes rows))) [
+      ≡ after found (is_faulty t || any_faulty rows) (cond (is_yes t) (row ∷ yes rows)
+      (yes rows))) [
         | No ↦ with_kept_is found rows
         | Faulty ↦ refl
         | Unknown ↦ with_kept_is found rows
@@ -65,7 +67,8 @@ module _ {R : Type 0} (accepted : R → Truth) where
 
   opened : (found : List R) (row : R) (rest : List R) (o : Option (List R))
       → kept_with (accepted row) found row ≡ o
-      → with_kept accepted found (row ∷ rest) ≡ option_and_then (λ more. with_kept accepted more rest) o
+      → with_kept accepted found (row ∷ rest) ≡ option_and_then
+      (λ more. with_kept accepted more rest) o
   unfolding with_kept
   opened found row rest o e = ap (option_and_then (λ more. with_kept accepted more rest)) e
 
@@ -96,3 +99,46 @@ goes_on like first old new a b = record {
   still = λ none. b.still none ∙ a.still none;
   later = omega (arith, a.later, b.later);
 }
+
+-- Rows that are rejected may be left out.
+
+abbrev IsLeft : {R : Type 0} → (R → Truth) → (R → Bool) → R → Type 0
+IsLeft accepted chosen row = chosen row ≡ false → accepted row ≡ No
+
+faulty_left : {R : Type 0} (accepted : R → Truth) (chosen : R → Bool) (rows : List R)
+    → AllByRecursion (IsLeft accepted chosen) rows
+    → any_faulty accepted (filter chosen rows) ≡ any_faulty accepted rows
+faulty_left accepted chosen [] h = refl
+faulty_left accepted chosen (row ∷ rows) h =
+    let more = faulty_left accepted chosen rows h.1 in
+    elim (chosen row) as (λ b. (b ≡ false → accepted row ≡ No)
+    → any_faulty accepted (cond b (row ∷ filter chosen rows) (filter chosen rows))
+    ≡ (is_faulty (accepted row) || any_faulty accepted rows)) [
+      | true ↦ λ e. ap (λ b. is_faulty (accepted row) || b) more
+      | false ↦ λ e. more ∙ ap (λ t. is_faulty t || any_faulty accepted rows) (sym (e refl))
+    ] h.0
+
+yes_left : {R : Type 0} (accepted : R → Truth) (chosen : R → Bool) (rows : List R)
+    → AllByRecursion (IsLeft accepted chosen) rows
+    → yes accepted (filter chosen rows) ≡ yes accepted rows
+yes_left accepted chosen [] h = refl
+yes_left accepted chosen (row ∷ rows) h =
+    let more = yes_left accepted chosen rows h.1 in
+    elim (chosen row) as (λ b. (b ≡ false → accepted row ≡ No)
+    → yes accepted (cond b (row ∷ filter chosen rows) (filter chosen rows))
+    ≡ cond (is_yes (accepted row)) (row ∷ yes accepted rows) (yes accepted rows)) [
+      | true ↦ λ e. ap (λ l. cond (is_yes (accepted row)) (row ∷ l) l) more
+      | false ↦ λ e. more
+          ∙ ap (λ t. cond (is_yes t) (row ∷ yes accepted rows) (yes accepted rows)) (sym (e refl))
+    ] h.0
+
+pub kept_left : {R : Type 0} (accepted : R → Truth) (chosen : R → Bool) (rows : List R)
+    → All (IsLeft accepted chosen) rows
+    → kept accepted (filter chosen rows) ≡ kept accepted rows
+unfolding kept
+kept_left accepted chosen rows h =
+    let each = recursion_from_All (IsLeft accepted chosen) rows h in
+    ap (λ b. if b then None else Some (yes accepted (filter chosen rows)))
+    (faulty_left accepted chosen rows each)
+    ∙ ap (λ l. if any_faulty accepted rows then None else Some l)
+    (yes_left accepted chosen rows each)

@@ -49,7 +49,8 @@ shown_in_order given a b limit rows n places wanted first e k h w =
     ap (λ l. with_shown (λ place. given (get_or rows place a)) limit 0 l places) e
     ∙ (all_shown (λ place. given (get_or rows place a)) limit places
     ∙ (ap (option_map (limited limit)) (placed given a b rows places below all)
-    ∙ (mapped (λ items. map (λ place. get_or items place b) places) (limited limit) (all_of given rows)
+    ∙ (mapped (λ items. map (λ place. get_or items place b) places) (limited limit)
+    (all_of given rows)
     ∙ ap (λ l. option_map (λ items. limited limit (map (λ place. get_or items place b) l))
     (all_of given rows)) w)))
 
@@ -76,11 +77,3 @@ unfolding all_of
 count_all given [] ys e = let f : [] ≡ ys = cc in ap length (sym f)
 count_all given (x ∷ xs) ys e =
     count_in (length xs) (given x) (all_of given xs) ys (λ l f. count_all given xs l f) e
-
-pub keys_filled : {A C : Type 0} (given : A → Option C) (rows : List (Bor A)) (start : List C)
-    → start ≡ [] → (o : Option (List C)) → with_all (λ row. given row.now) start rows ≡ o
-    → all_of given (map (λ (r : Bor A). r.now) rows) ≡ o
-keys_filled given rows start e o h =
-    sym (all_of_map (λ r. r.now) given rows)
-    ∙ (sym (all_filled (λ r. given r.now) rows)
-    ∙ (ap (λ l. with_all (λ r. given r.now) l rows) (sym e) ∙ h))

@@ -20,23 +20,30 @@ abbrev pub given : Outcome → Option Value
 given fault = None
 given (gives it) = Some it
 
--- The value of an expression in a row, without aggregates.
-abbrev pub value_in : (ℕ → Meaning) → List Value → TypedExpr → Option Value
-value_in meaning row e = given (value (place row [] meaning) e)
+-- What an expression is evaluated in: a row, and the values of the aggregates over its group.
+pub record Subject : Type 0 where
+  pub row : List Value
+  pub aggregates : List Value
 
--- The values of expressions in a row; none where one is a fault.
-abbrev pub values_in : (ℕ → Meaning) → List TypedExpr → List Value → Option (List Value)
-values_in meaning exprs row = all_of (value_in meaning row) exprs
+-- A row without aggregates.
+abbrev pub alone : List Value → Subject
+alone row = record { row = row; aggregates = [] }
 
--- Their values in each of these rows; none where one is a fault.
-abbrev pub values_of : (ℕ → Meaning) → List TypedExpr → List (List Value)
-    → Option (List (List Value))
-values_of meaning exprs rows = all_of (values_in meaning exprs) rows
+-- The value of an expression.
+abbrev pub value_in : (ℕ → Meaning) → Subject → TypedExpr → Option Value
+value_in meaning subject e = given (value (place subject.row subject.aggregates meaning) e)
 
--- The values of keys in a row, and in each of these rows; none where one is a fault.
-abbrev pub keys_in : (ℕ → Meaning) → List TypedOrder → List Value → Option (List Value)
-keys_in meaning orders row = all_of (λ key. value_in meaning row key.expr) orders
+-- The values of expressions; none where one is a fault.
+abbrev pub values_in : (ℕ → Meaning) → List TypedExpr → Subject → Option (List Value)
+values_in meaning exprs subject = all_of (value_in meaning subject) exprs
 
-abbrev pub keys_of : (ℕ → Meaning) → List TypedOrder → List (List Value)
-    → Option (List (List Value))
-keys_of meaning orders rows = all_of (keys_in meaning orders) rows
+-- Their values in each of these; none where one is a fault.
+abbrev pub values_of : (ℕ → Meaning) → List TypedExpr → List Subject → Option (List (List Value))
+values_of meaning exprs subjects = all_of (values_in meaning exprs) subjects
+
+-- The values of keys, and in each of these; none where one is a fault.
+abbrev pub keys_in : (ℕ → Meaning) → List TypedOrder → Subject → Option (List Value)
+keys_in meaning orders subject = all_of (λ key. value_in meaning subject key.expr) orders
+
+abbrev pub keys_of : (ℕ → Meaning) → List TypedOrder → List Subject → Option (List (List Value))
+keys_of meaning orders subjects = all_of (keys_in meaning orders) subjects

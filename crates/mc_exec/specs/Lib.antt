@@ -3,7 +3,12 @@ pub mod Source
 pub mod Kept
 pub mod Given
 pub mod Ordered
+pub mod Aggregates
+pub mod Grouped
+pub mod Shown
 pub mod FullScan
 pub mod Work
 pub mod Told
 pub mod Steps
+pub mod Ready
+pub mod Laws

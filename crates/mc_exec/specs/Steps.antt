@@ -1,6 +1,6 @@
 -- What the private parts do, a member at a time; no public clause cites it.
 use Rattle.std.specs.Prelude.{◌≡◌, ℕ, ◌+◌, ◌≤◌, Bool, true, false, IsTrue, nat_le, nat_lt, ◌&&◌}
-use Rattle.std.specs.Prelude.{◌-◌, All}
+use Rattle.std.specs.Prelude.{◌-◌, All, nat_eq}
 use Rattle.std.specs.Prelude.{List, [], ◌∷◌, ◌++◌, Option, Some, None, if◌then◌else◌}
 use Rattle.std.specs.Prelude.{option_and_then, option_map}
 use Rattle.mc_catalog.specs.declared.catalog.Catalog.{Catalog}
@@ -54,6 +54,13 @@ unfoldable pub with_shown : {A B : Type 0} → (A → Option B) → Option (ℕ 
 with_shown given limit place shown [] = Some shown
 with_shown given limit place shown (x ∷ xs) = option_and_then
     (λ it. with_shown given limit (place + 1) (shown_with limit place shown it) xs) (given x)
+
+-- The members at which a number is the next one that is new, counted from a number on.
+unfoldable pub picked : {A : Type 0} → ℕ → List ℕ → List A → List A
+picked count [] xs = []
+picked count (n ∷ numbers) [] = []
+picked count (n ∷ numbers) (x ∷ xs) =
+    if nat_eq n count then x ∷ picked (count + 1) numbers xs else picked count numbers xs
 
 -- A row that a statement over this table reads: its values may be kept, and are of the columns'
 -- types.

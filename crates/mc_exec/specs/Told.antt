@@ -1,5 +1,6 @@
 -- What an answer tells of what is wanted.
-use Rattle.std.specs.Prelude.{◌≡◌, ⊤, Option, Some, None, Result, Ok, Err}
+use Rattle.std.specs.Prelude.{◌≡◌, ⊤, IsTrue, Option, Some, None, Result, Ok, Err}
+use Rattle.std.specs.Option.{is_some}
 use Rattle.mc_eval.specs.declared.fault.EvalFault.{EvalFault}
 use Rattle.mc_eval.specs.declared.fault.EvalFault.TheVariants as eval
 use Rattle.mc_exec.specs.declared.fault.ExecFault.{ExecFault}
@@ -24,3 +25,8 @@ TellsOf wanted it (Err fault) = Fails wanted fault
 abbrev pub fault_of : EvalFault → ExecFault
 fault_of eval.OutOfRange = OutOfRange
 fault_of eval.NoMemory = NoMemory
+
+-- An answer tells whether what is wanted can be had, unless memory ran out.
+abbrev pub Finds : {A U : Type 0} → Option A → Result U ExecFault → Type 0
+Finds wanted (Ok done) = IsTrue (is_some wanted)
+Finds wanted (Err fault) = Fails wanted fault

@@ -1,60 +1,39 @@
 ghost use Rattle.mc_eval.specs.Fit.{has_like};
 ghost use Rattle.mc_eval.specs.Outcomes.{IsKept};
-ghost use Rattle.mc_exec.specs.Given.{keys_in, value_in};
-ghost use Rattle.mc_exec.specs.Ordered.{
-  directions_of,
-  kind_of,
-  kinds_of,
-  places_in_order,
-};
-ghost use Rattle.mc_exec.specs.Steps.{
-  GoesOn,
-  IsFit,
-  appended,
-  with_all,
-};
+ghost use Rattle.mc_exec.specs.Given.{keys_in, value_in, values_in};
+ghost use Rattle.mc_exec.specs.Ready.{IsKeptSubject};
+ghost use Rattle.mc_exec.specs.Steps.{GoesOn, IsFit, appended, with_all};
 ghost use Rattle.mc_exec.specs.Told.{TellsOf};
-ghost use Rattle.mc_group.specs.Kinds.{IsInBook, IsKeyRow};
-ghost use Rattle.mc_group.specs.Order.{row_order};
-ghost use Rattle.std.specs.List.{list_any, range_with_len};
-ghost use Rattle.std.specs.Prelude.{
-  ◌≡◌,
-  [],
-  All,
-  IfOk,
-  IsPermutation,
-  OnOk,
-  length,
-};
+ghost use Rattle.std.specs.List.{list_any};
+ghost use Rattle.std.specs.Prelude.{All};
 
 use crate::fault::ExecFault;
-use mc_base::{List, NoMemory, Steps};
+use crate::subject::LentSubject;
+use mc_base::{List, Steps};
 use mc_eval::eval;
-use mc_group::{KeyKind, order_rows, place_law};
 use mc_order::Book;
-use mc_typing::{Ty, TypedExpr, TypedOrder};
+use mc_typing::{TypedExpr, TypedOrder};
 use mc_values::Row;
 use std::alloc::Global;
 
-/// Appends the value of an expression in a row.
+/// Appends the value of an expression.
 pub(crate) fn put_value<B: Book, W>(
     alloc: Global,
     e: &TypedExpr,
-    row: &Row,
+    subject: &LentSubject,
     book: &B,
     work: &mut Steps<W>,
     values: &mut Row,
 ) -> Result<(), ExecFault>
     requires fit { IsFit (B.count book.now) e.now }
-    requires row { All IsKept row.now }
+    requires subject { IsKeptSubject subject.now }
     requires kept { All IsKept values.old }
     ensures told { TellsOf
-        (appended values.old (value_in (B.meaning book.now) row.now e.now)) values.new result }
+        (appended values.old (value_in (B.meaning book.now) subject.now e.now)) values.new result }
     ensures kept { All IsKept values.new }
     ensures work { GoesOn (has_like e.now) work.old work.new }
 {
-    let none = Row::new(alloc);
-    match eval(alloc, e, row, &none, book, work) {
+    match eval(alloc, e, subject.row, subject.aggregates, book, work) {
         Ok(value) => {
             values.push(value)?;
             Ok(())
@@ -63,26 +42,26 @@ pub(crate) fn put_value<B: Book, W>(
     }
 }
 
-/// Appends the values of keys in a row.
-fn put_key_values<B: Book, W>(
+/// Appends the values of expressions.
+pub(crate) fn put_values<B: Book, W>(
     alloc: Global,
-    orders: &[TypedOrder],
-    row: &Row,
+    exprs: &[TypedExpr],
+    subject: &LentSubject,
     book: &B,
     work: &mut Steps<W>,
     values: &mut Row,
 ) -> Result<(), ExecFault>
-    requires fit { All (λ key. IsFit (B.count book.now) key.expr) orders.now }
-    requires row { All IsKept row.now }
+    requires fit { All (IsFit (B.count book.now)) exprs.now }
+    requires subject { IsKeptSubject subject.now }
     requires kept { All IsKept values.old }
     ensures told { TellsOf
-        (with_all (λ key. value_in (B.meaning book.now) row.now key.expr) values.old orders.now)
+        (with_all (value_in (B.meaning book.now) subject.now) values.old exprs.now)
         values.new result }
     ensures kept { All IsKept values.new }
-    ensures work { GoesOn (list_any (λ key. has_like key.expr) orders.now) work.old work.new }
+    ensures work { GoesOn (list_any has_like exprs.now) work.old work.new }
 {
-    for key in orders {
-        match put_value(alloc, &key.expr, row, book, work, values) {
+    for e in exprs {
+        match put_value(alloc, e, subject, book, work, values) {
             Ok(()) => {}
             Err(fault) => return Err(fault),
         }
@@ -90,25 +69,84 @@ fn put_key_values<B: Book, W>(
     Ok(())
 }
 
-/// Appends the row of the keys' values in a row.
+/// Appends the row of expressions' values.
+pub(crate) fn put_row<B: Book, W>(
+    alloc: Global,
+    exprs: &[TypedExpr],
+    subject: &LentSubject,
+    book: &B,
+    work: &mut Steps<W>,
+    rows: &mut List<Row>,
+) -> Result<(), ExecFault>
+    requires fit { All (IsFit (B.count book.now)) exprs.now }
+    requires subject { IsKeptSubject subject.now }
+    requires kept { All (All IsKept) rows.old }
+    ensures told { TellsOf
+        (appended rows.old (values_in (B.meaning book.now) exprs.now subject.now))
+        rows.new result }
+    ensures kept { All (All IsKept) rows.new }
+    ensures work { GoesOn (list_any has_like exprs.now) work.old work.new }
+{
+    let mut values = Row::new(alloc);
+    match put_values(alloc, exprs, subject, book, work, &mut values) {
+        Ok(()) => {
+            rows.push(values)?;
+            Ok(())
+        }
+        Err(fault) => {
+            drop(values);
+            Err(fault)
+        }
+    }
+}
+
+/// Appends the values of keys.
+pub(crate) fn put_key_values<B: Book, W>(
+    alloc: Global,
+    orders: &[TypedOrder],
+    subject: &LentSubject,
+    book: &B,
+    work: &mut Steps<W>,
+    values: &mut Row,
+) -> Result<(), ExecFault>
+    requires fit { All (λ key. IsFit (B.count book.now) key.expr) orders.now }
+    requires subject { IsKeptSubject subject.now }
+    requires kept { All IsKept values.old }
+    ensures told { TellsOf
+        (with_all (λ key. value_in (B.meaning book.now) subject.now key.expr)
+        values.old orders.now) values.new result }
+    ensures kept { All IsKept values.new }
+    ensures work { GoesOn (list_any (λ key. has_like key.expr) orders.now) work.old work.new }
+{
+    for key in orders {
+        match put_value(alloc, &key.expr, subject, book, work, values) {
+            Ok(()) => {}
+            Err(fault) => return Err(fault),
+        }
+    }
+    Ok(())
+}
+
+/// Appends the row of the keys' values.
 fn put_keys<B: Book, W>(
     alloc: Global,
     orders: &[TypedOrder],
-    row: &Row,
+    subject: &LentSubject,
     book: &B,
     work: &mut Steps<W>,
     keys: &mut List<Row>,
 ) -> Result<(), ExecFault>
     requires fit { All (λ key. IsFit (B.count book.now) key.expr) orders.now }
-    requires row { All IsKept row.now }
+    requires subject { IsKeptSubject subject.now }
     requires kept { All (All IsKept) keys.old }
     ensures told { TellsOf
-        (appended keys.old (keys_in (B.meaning book.now) orders.now row.now)) keys.new result }
+        (appended keys.old (keys_in (B.meaning book.now) orders.now subject.now))
+        keys.new result }
     ensures kept { All (All IsKept) keys.new }
     ensures work { GoesOn (list_any (λ key. has_like key.expr) orders.now) work.old work.new }
 {
     let mut values = Row::new(alloc);
-    match put_key_values(alloc, orders, row, book, work, &mut values) {
+    match put_key_values(alloc, orders, subject, book, work, &mut values) {
         Ok(()) => {
             keys.push(values)?;
             Ok(())
@@ -120,83 +158,29 @@ fn put_keys<B: Book, W>(
     }
 }
 
-/// Appends the rows of the keys' values in each of these rows.
+/// Appends the rows of the keys' values in each of these subjects.
 pub(crate) fn put_all_keys<B: Book, W>(
     alloc: Global,
     orders: &[TypedOrder],
-    rows: &[&Row],
+    subjects: &[LentSubject],
     book: &B,
     work: &mut Steps<W>,
     keys: &mut List<Row>,
 ) -> Result<(), ExecFault>
     requires fit { All (λ key. IsFit (B.count book.now) key.expr) orders.now }
-    requires rows { All (λ row. All IsKept row.now) rows.now }
+    requires subjects { All IsKeptSubject subjects.now }
     requires kept { All (All IsKept) keys.old }
     ensures told { TellsOf
-        (with_all (λ row. keys_in (B.meaning book.now) orders.now row.now) keys.old rows.now)
+        (with_all (keys_in (B.meaning book.now) orders.now) keys.old subjects.now)
         keys.new result }
     ensures kept { All (All IsKept) keys.new }
     ensures work { GoesOn (list_any (λ key. has_like key.expr) orders.now) work.old work.new }
 {
-    for row in rows {
-        match put_keys(alloc, orders, row, book, work, keys) {
+    for subject in subjects {
+        match put_keys(alloc, orders, subject, book, work, keys) {
             Ok(()) => {}
             Err(fault) => return Err(fault),
         }
     }
     Ok(())
-}
-
-/// What values of a type are compared as.
-fn kind_of(ty: Ty) -> KeyKind
-    ensures { result ≡ kind_of ty }
-{
-    match ty {
-        Ty::Str(operand) => KeyKind::Text(operand.collation),
-        Ty::Int | Ty::Null => KeyKind::Int,
-    }
-}
-
-/// Appends the kinds of keys.
-fn put_kinds(orders: &[TypedOrder], kinds: &mut List<KeyKind>) -> Result<(), NoMemory>
-    requires { kinds.old ≡ [] }
-    ensures { OnOk result (kinds.new ≡ kinds_of orders.now) }
-{
-    for key in orders {
-        kinds.push(kind_of(key.expr.ty))?;
-    }
-    Ok(())
-}
-
-/// Appends the directions of keys.
-fn put_directions(orders: &[TypedOrder], directions: &mut List<bool>) -> Result<(), NoMemory>
-    requires { directions.old ≡ [] }
-    ensures { OnOk result (directions.new ≡ directions_of orders.now) }
-{
-    for key in orders {
-        directions.push(key.desc)?;
-    }
-    Ok(())
-}
-
-/// The places of rows in the order of their keys.
-pub(crate) fn ordered_places<B: Book>(
-    alloc: Global,
-    orders: &[TypedOrder],
-    keys: &List<Row>,
-    book: &B,
-) -> Result<List<u32>, NoMemory>
-    requires in_book { All (IsInBook (B.count book.now)) (kinds_of orders.now) }
-    requires key_rows { All (IsKeyRow (B.meaning book.now) (kinds_of orders.now)) keys.now }
-    ensures are { IfOk result (λ places. places ≡ places_in_order
-        (row_order (B.meaning book.now) (kinds_of orders.now) (directions_of orders.now))
-        keys.now) }
-    ensures all { IfOk result (IsPermutation (range_with_len 0 (length keys.now))) }
-{
-    place_law();
-    let mut kinds = List::new(alloc);
-    put_kinds(orders, &mut kinds)?;
-    let mut directions = List::new(alloc);
-    put_directions(orders, &mut directions)?;
-    order_rows(alloc, keys, &kinds, &directions, book)
 }

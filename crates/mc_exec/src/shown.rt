@@ -1,12 +1,12 @@
 ghost use Rattle.mc_eval.specs.Fit.{has_like};
 ghost use Rattle.mc_eval.specs.Outcomes.{IsKept};
-ghost use Rattle.mc_exec.specs.Given.{value_in, values_in};
+ghost use Rattle.mc_exec.specs.Given.{alone, values_in};
+ghost use Rattle.mc_exec.specs.Ready.{IsKeptSubject};
 ghost use Rattle.mc_exec.specs.Steps.{
   GoesOn,
   IsFit,
   is_shown,
   shown_with,
-  with_all,
   with_shown,
 };
 ghost use Rattle.mc_exec.specs.Told.{TellsOf};
@@ -19,43 +19,17 @@ ghost use Rattle.std.specs.Prelude.{
   All,
   OnOk,
   length,
-  map,
   slice_index_or,
 };
 
 use crate::fault::ExecFault;
-use crate::keys::put_value;
+use crate::keys::put_values;
+use crate::subject::LentSubject;
 use mc_base::{List, NoMemory, Steps};
 use mc_order::Book;
 use mc_typing::TypedExpr;
 use mc_values::Row;
 use std::alloc::Global;
-
-/// Appends the values of expressions in a row.
-fn put_values<B: Book, W>(
-    alloc: Global,
-    exprs: &[TypedExpr],
-    row: &Row,
-    book: &B,
-    work: &mut Steps<W>,
-    values: &mut Row,
-) -> Result<(), ExecFault>
-    requires fit { All (IsFit (B.count book.now)) exprs.now }
-    requires row { All IsKept row.now }
-    requires kept { All IsKept values.old }
-    ensures told { TellsOf
-        (with_all (value_in (B.meaning book.now) row.now) values.old exprs.now) values.new result }
-    ensures kept { All IsKept values.new }
-    ensures work { GoesOn (list_any has_like exprs.now) work.old work.new }
-{
-    for e in exprs {
-        match put_value(alloc, e, row, book, work, values) {
-            Ok(()) => {}
-            Err(fault) => return Err(fault),
-        }
-    }
-    Ok(())
-}
 
 /// Whether a row at this place of the order is within the limit, an offset and a count.
 fn is_shown(limit: Option<(u64, u64)>, place: u64) -> bool
@@ -86,28 +60,28 @@ fn push_shown(
     Ok(())
 }
 
-/// Appends the row of the items' values in a row, if its place is within the limit.
+/// Appends the row of the items' values, if its place is within the limit.
 fn put_shown<B: Book, W>(
     alloc: Global,
     items: &[TypedExpr],
     limit: Option<(u64, u64)>,
     place: u64,
-    row: &Row,
+    subject: &LentSubject,
     book: &B,
     work: &mut Steps<W>,
     shown: &mut List<Row>,
 ) -> Result<(), ExecFault>
     requires fit { All (IsFit (B.count book.now)) items.now }
-    requires row { All IsKept row.now }
+    requires subject { IsKeptSubject subject.now }
     requires kept { All (All IsKept) shown.old }
     ensures told { TellsOf
         (option_map (shown_with limit place shown.old)
-        (values_in (B.meaning book.now) items.now row.now)) shown.new result }
+        (values_in (B.meaning book.now) items.now subject.now)) shown.new result }
     ensures kept { All (All IsKept) shown.new }
     ensures work { GoesOn (list_any has_like items.now) work.old work.new }
 {
     let mut values = Row::new(alloc);
-    match put_values(alloc, items, row, book, work, &mut values) {
+    match put_values(alloc, items, subject, book, work, &mut values) {
         Ok(()) => {
             push_shown(limit, place, values, shown)?;
             Ok(())
@@ -119,32 +93,32 @@ fn put_shown<B: Book, W>(
     }
 }
 
-/// Appends the rows of the items' values in the rows at these places, as far as they are within the
-/// limit; those behind it are evaluated too.
+/// Appends the rows of the items' values in the subjects at these places, as far as they are within
+/// the limit; those behind it are evaluated too.
 pub(crate) fn put_all_shown<B: Book, W>(
     alloc: Global,
     items: &[TypedExpr],
     limit: Option<(u64, u64)>,
-    rows: &[&Row],
+    subjects: &[LentSubject],
     places: &[u32],
     book: &B,
     work: &mut Steps<W>,
     shown: &mut List<Row>,
 ) -> Result<(), ExecFault>
     requires fit { All (IsFit (B.count book.now)) items.now }
-    requires rows { All (λ row. All IsKept row.now) rows.now }
-    requires places { All (λ place. place < length rows.now) places.now }
+    requires subjects { All IsKeptSubject subjects.now }
+    requires places { All (λ place. place < length subjects.now) places.now }
     requires kept { All (All IsKept) shown.old }
     ensures told { TellsOf
         (with_shown (λ place. values_in (B.meaning book.now) items.now
-        (slice_index_or (map (λ row. row.now) rows.now) place [])) limit 0 shown.old places.now)
+        (slice_index_or subjects.now place (alone []))) limit 0 shown.old places.now)
         shown.new result }
     ensures kept { All (All IsKept) shown.new }
     ensures work { GoesOn (list_any has_like items.now) work.old work.new }
 {
     for (n, place) in places.iter().enumerate() {
-        let row = rows[*place as usize];
-        match put_shown(alloc, items, limit, n as u64, row, book, work, shown) {
+        let subject = &subjects[*place as usize];
+        match put_shown(alloc, items, limit, n as u64, subject, book, work, shown) {
             Ok(()) => {}
             Err(fault) => return Err(fault),
         }

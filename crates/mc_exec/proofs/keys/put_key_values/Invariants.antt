@@ -8,7 +8,8 @@ use Rattle.mc_exec.proofs.keys.put_key_values.Given as goal
 
 abbrev pub invariant-loop-key : goal.invariant-loop-key
 invariant-loop-key g l =
-    IsFilled (λ key. value_in (g.B.Book.meaning l.book) l.row key.expr) l.orders l.initial.values
+    IsFilled (λ key. value_in (g.B.Book.meaning l.book) l.subject key.expr) l.orders
+    l.initial.values
     l.key-index l.values
     × All IsKept l.values
     × LikeLeft (λ key. has_like key.expr) l.orders l.key-index l.initial.work l.work

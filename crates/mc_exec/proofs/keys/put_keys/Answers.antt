@@ -9,16 +9,17 @@ pub returns-in_ok-push-in-Ok-clause-told : goal.returns-in_ok-push-in-Ok-clause-
 returns-in_ok-push-in-Ok-clause-told g c =
     let m = g.B.Book.meaning c.args.book.now in
     let given = λ (key : TypedOrder).
-    value_in m c.args.row.now key.expr in
+    value_in m c.args.subject.now key.expr in
     put_filled given c.args.keys.now c.args.orders.now c.new-values.result
-    c.put_key_values.new.values _ c.new-values.ensures c.in-Ok.ensures.told c.in_ok-push-in-Ok.ensures.ok
+    c.put_key_values.new.values _ c.new-values.ensures c.in-Ok.ensures.told
+    c.in_ok-push-in-Ok.ensures.ok
 
 pub returns-in-Err-clause-told : goal.returns-in-Err-clause-told
 returns-in-Err-clause-told g c =
     let m = g.B.Book.meaning c.args.book.now in
     let given = λ (key : TypedOrder).
-    value_in m c.args.row.now key.expr in
+    value_in m c.args.subject.now key.expr in
     fails (with_all given c.new-values.result c.args.orders.now)
-    (appended c.args.keys.now (keys_in m c.args.orders.now c.args.row.now))
+    (appended c.args.keys.now (keys_in m c.args.orders.now c.args.subject.now))
     c.in-Err.fault (none_filled given _ c.args.orders.now c.new-values.result c.new-values.ensures)
     c.in-Err.ensures.told

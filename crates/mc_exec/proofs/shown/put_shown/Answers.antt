@@ -8,7 +8,7 @@ use Rattle.mc_exec.proofs.shown.put_shown.Goals as goal
 pub returns-in_ok-push_shown-in-Ok-clause-told : goal.returns-in_ok-push_shown-in-Ok-clause-told
 returns-in_ok-push_shown-in-Ok-clause-told g c =
     let m = g.B.Book.meaning c.args.book.now in
-    let given = value_in m c.args.row.now in
+    let given = value_in m c.args.subject.now in
     put_mapped given (shown_with c.args.limit c.args.place c.args.shown.now) c.args.items.now
     c.new-values.result c.put_values.new.values _ c.new-values.ensures c.in-Ok.ensures.told
     c.in_ok-push_shown-in-Ok.ensures.ok
@@ -16,9 +16,9 @@ returns-in_ok-push_shown-in-Ok-clause-told g c =
 pub returns-in-Err-clause-told : goal.returns-in-Err-clause-told
 returns-in-Err-clause-told g c =
     let m = g.B.Book.meaning c.args.book.now in
-    let given = value_in m c.args.row.now in
+    let given = value_in m c.args.subject.now in
     fails (with_all given c.new-values.result c.args.items.now)
     (option_map (shown_with c.args.limit c.args.place c.args.shown.now)
-    (values_in m c.args.items.now c.args.row.now))
+    (values_in m c.args.items.now c.args.subject.now))
     c.in-Err.fault (none_filled given (shown_with c.args.limit c.args.place c.args.shown.now)
     c.args.items.now c.new-values.result c.new-values.ensures) c.in-Err.ensures.told
