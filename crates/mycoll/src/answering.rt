@@ -1,9 +1,9 @@
 ghost use Rattle.mc_ast.specs.Texts.{HasUtf8Strings};
 ghost use Rattle.mc_catalog.specs.Fits.{FitsCatalog};
 ghost use Rattle.mc_catalog.specs.Lawful.{IsLawful};
-ghost use Rattle.mc_exec.specs.FullScan.{IsPlain, answer};
+ghost use Rattle.mc_exec.specs.FullScan.{answer};
 ghost use Rattle.mc_typing.specs.SoundStatements.{IsSoundStatement};
-ghost use Rattle.mc_typing.specs.Statements.{IsUngrouped, typed_statement};
+ghost use Rattle.mc_typing.specs.Statements.{typed_statement};
 ghost use Rattle.mycoll.specs.Answering.{AnswersWritten, StopCause};
 ghost use Rattle.mycoll.specs.Answers.{IsAnswer, scan_said, tree_said, typed_said};
 ghost use Rattle.mycoll.specs.Costs.{
@@ -18,7 +18,7 @@ ghost use Rattle.mycoll.specs.Costs.{
 ghost use Rattle.mycoll.specs.SaidTexts.{HasTexts};
 ghost use Rattle.mycoll.specs.World.{AreSound, state_of, world_of};
 ghost use Rattle.mc_token.specs.Statements.{statements};
-ghost use Rattle.std.specs.Prelude.{◌≡◌, ◌≤◌, ◌<◌, ◌^◌, IfErr, IfOk, IsUtf8, false, length};
+ghost use Rattle.std.specs.Prelude.{◌≡◌, ◌≤◌, ◌<◌, ◌^◌, IfErr, IfOk, IsUtf8, length};
 
 use crate::built::is_built;
 use crate::messages::{not_built, out_of_range};
@@ -48,7 +48,6 @@ fn scan_said<B: Book, W, L>(
     requires fits { FitsCatalog tables.now.catalog (B.count book.now)
         (λ id. (B.meaning book.now id).charset) }
     requires sound { IsSoundStatement tables.now.catalog q.now }
-    requires plain { IsPlain q.now }
     ensures is { IfOk result (λ said.
         said ≡ scan_said (answer tables.now (B.meaning book.now) q.now)) }
     ensures texts { IfOk result HasTexts }
@@ -75,8 +74,6 @@ fn typed_said<B: Book, W, L>(
     steps: &mut Steps<L>,
 ) -> Result<Said, NoMemory>
     requires texts { HasUtf8Strings tree.now }
-    requires ungrouped { IsUngrouped tree.now }
-    requires undistinct { tree.now.distinct ≡ false }
     requires sound { AreSound (world_of tables.now.catalog (B.meaning book.now))
         (B.count book.now) (state_of session.now tables.now.rows) }
     ensures is { IfOk result (λ said. said

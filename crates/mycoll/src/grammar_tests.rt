@@ -38,7 +38,7 @@ const READ: [Script; 11] = [
     },
     Script {
         why: "not built comes before the refusals of items",
-        script: b"SELECT 'a' COLLATE nope = 'a', COUNT(*)",
+        script: b"EXPLAIN SELECT 'a' COLLATE nope = 'a'",
         status: Status::SomeRefused,
         written: b"ERROR 9099: not built yet\n",
     },
@@ -93,18 +93,10 @@ fn statements_are_read_by_the_grammar(rt: HostRuntime) {
 }
 
 /// Statements that are read and not answered yet.
-const NOT_BUILT: [&str; 11] = [
+const NOT_BUILT: [&str; 3] = [
     "EXPLAIN SELECT 1",
-    "SELECT DISTINCT 1",
-    "SELECT COUNT(*)",
-    "SELECT 1 + COUNT(DISTINCT 1)",
-    "SELECT MAX('a') FROM nope",
-    "SELECT CHARSET(MIN('a'))",
-    "SELECT 1 ORDER BY LEFT('a', SUM(1))",
-    "SELECT 1 FROM t WHERE 2 IN (1, COUNT(*))",
-    "SELECT TRIM(MAX('a') FROM 'b')",
-    "SELECT nope FROM t GROUP BY a",
-    "SELECT 1 FROM t WHERE 'a' COLLATE nope = 'a' GROUP BY a",
+    "EXPLAIN SELECT COUNT(*) FROM nope",
+    "EXPLAIN SELECT nope FROM t WHERE 1 GROUP BY a",
 ];
 
 fn is_not_built(alloc: Global, script: &str) -> Result<bool, NoMemory> {

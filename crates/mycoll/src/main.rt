@@ -20,6 +20,8 @@ mod catalog_tests;
 mod expression_tests;
 #[cfg(test)]
 mod grammar_tests;
+#[cfg(test)]
+mod group_tests;
 mod laws;
 mod messages;
 mod opening;
