@@ -1,0 +1,5 @@
+pub mod Entries
+pub mod Digits
+pub mod Places
+pub mod Laws
+pub mod Held
