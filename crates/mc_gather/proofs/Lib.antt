@@ -1,0 +1,12 @@
+pub mod Sorted
+pub mod Zipped
+pub mod Runs
+pub mod Covered
+pub mod Reached
+pub mod FoundRows
+pub mod Planned
+pub mod Gathered
+pub mod Built
+pub mod Texts
+pub mod Literals
+pub mod Ends
