@@ -132,6 +132,10 @@ class Maker:
     def items(self, has_keys: bool, grouped: bool) -> list[str]:
         """The items, some with aliases."""
         dice = self.dice
+        if grouped and self.great > 0.1 and dice.random() < 0.5:
+            found = self.hidden_fault()
+            self.great = 0
+            return [found, *([self.aggregate().text] if not has_keys else [])]
         if self.table and (not grouped and dice.random() < 0.12 or self.errs()):
             return ["*", *(self.item() for _ in range(dice.choice([0, 0, 1])))]
         items = [self.item() for _ in range(dice.choice([1, 1, 2, 2, 3]))]
@@ -141,6 +145,21 @@ class Maker:
         if grouped and not has_keys:
             items.append(self.aggregate().text)
         return items
+
+    def hidden_fault(self) -> str:
+        """A number that may be outside 64 bits in a row that its group doesn't show, or in an
+        aggregate beside which AND and OR have what decides them."""
+        dice = self.dice
+        columns = [text.text for text, _ in self.source.texts if self.cells(text.text)]
+        if columns and dice.random() < 0.6:
+            name = dice.choice(columns)
+            longest = max(map(len, self.cells(name)))
+            return f"CHAR_LENGTH({name}) + {2**63 - max(longest, 1)}"
+        shown, self.source = self.source, self.aggregates or self.source
+        name, number = dice.choice(["SUM", "SUM", "MAX", "COUNT", "MIN"]), self.edge().text
+        self.source = shown
+        decided = dice.choice(["0 AND", "COUNT(*) < 0 AND", "1 OR", "COUNT(*) OR", "NULL AND"])
+        return f"{decided} {name}({number}) > 1"
 
     def item(self) -> str:
         """An item, perhaps with an alias."""
@@ -233,9 +252,12 @@ class Maker:
         return Written(f"{name} {negated}LIKE {self.pattern(collation, pool)}", CONDITION)
 
     def cells(self, name: str) -> list[str]:
-        """The texts of a column."""
-        names = [column for column, _ in self.table.columns]
-        place = names.index(name.split(".")[-1].strip("`").lower())
+        """The texts of a column, none of another expression."""
+        columns = [column for column, _ in self.table.columns] if self.table else []
+        column = name.split(".")[-1].strip("`").lower()
+        if column not in columns:
+            return []
+        place = columns.index(column)
         return [row[place].chars for row in self.table.rows if row[place] is not None]
 
     def constant(self, collation: str, pool: Optional[list[str]] = None) -> str:
@@ -323,7 +345,8 @@ class Maker:
         elif way < 5:
             text = f"COUNT(DISTINCT {self.anything(1).text})"
         else:
-            text = f"{dice.choice(['SUM', 'SUM', 'min', 'MAX'])}({self.number(1).text})"
+            number = self.edge() if dice.random() < self.great else self.number(1)
+            text = f"{dice.choice(['SUM', 'SUM', 'min', 'MAX'])}({number.text})"
         self.source, self.aggregates = shown, self.source
         return Written(text)
 

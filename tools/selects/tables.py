@@ -5,6 +5,8 @@ import io
 import random
 from dataclasses import dataclass, field
 
+from .texts import LATIN1
+
 LETTERS = ["a", "b", "c", "h", "s", "A", "B", "C", "S", "ß", "ä", " ", "\t", "\u00ad"]
 """The characters that the weight files know, U+00AD among them."""
 
@@ -24,6 +26,9 @@ KINDS = {
     "utf8mb4_0900_as_cs": "utf8mb4 uca900_as_cs elements.txt",
 }  # fmt: skip
 """The collations of columns, and what a catalog says of those that are not built in."""
+
+WEIGHED = [name for name, told in KINDS.items() if told]
+"""Those that are not built in."""
 
 LONGEST = 8
 """How many characters a text column takes."""
@@ -72,25 +77,23 @@ def some_text(dice: random.Random) -> str:
 
 
 def alike(text: str, dice: random.Random) -> str:
-    """The text, or one that some collation may take for it."""
-    way = dice.randrange(7)
+    """A text that some collation takes for this one."""
     place = dice.choice([0, dice.randint(0, len(text))])
-    if way == 0:
-        return "".join(char if char == "ß" else char.swapcase() for char in text)
-    if way == 1:
-        return text + " " * dice.randint(1, 2)
-    if way == 2:
-        return text[:place] + "\u00ad" + text[place:]
-    if way in (3, 4) and "s" in text.replace("ß", "s"):
-        return text.replace("ss", "ß") if "ss" in text else text.replace("ß", "ss")
-    if way == 5:
-        return text.replace("ä", dice.choice(["a", "ae"]))
-    return text
+    edits = [
+        "".join(char if char == "ß" else char.swapcase() for char in text),
+        text + " " * dice.randint(1, 2),
+        text[:place] + "\u00ad" + text[place:],
+    ]
+    if "ss" in text or "ß" in text:
+        edits += [text.replace("ss", "ß") if "ss" in text else text.replace("ß", "ss")] * 2
+    if "ä" in text or "ae" in text:
+        edits += [text.replace("ä", dice.choice(["a", "ae"])), text.replace("ae", "ä")]
+    return dice.choice(edits)
 
 
 def near(text: str, dice: random.Random) -> str:
     """The text, one that is alike, or another one of nearly the same characters."""
-    way = dice.randrange(12)
+    way = dice.randrange(10)
     place = dice.randint(0, len(text))
     if way == 0:
         return text + dice.choice(LETTERS)
@@ -98,21 +101,23 @@ def near(text: str, dice: random.Random) -> str:
         return text[:place]
     if way == 2:
         return text[:place] + dice.choice(PIECES) + text[place:]
-    return alike(text, dice) if way < 8 else text
+    for _ in range(dice.choice([0, 1, 1, 2])):
+        text = alike(text, dice)
+    return text
 
 
 def column_text(pool: list[str], charset: str, dice: random.Random) -> str:
     """A text of the pool, or near one, that a column of the set takes."""
     text = near(dice.choice(pool), dice)
     if charset == "latin1":
-        text = "".join(char for char in text if char not in WIDE)
+        text = "".join(char for char in text if char in LATIN1)
     return text[:LONGEST] if text != "\\N" else "N"
 
 
 def table_lines(name: str, made: Files, dice: random.Random) -> list[str]:
     """The lines of a table. Its rows become a file."""
     kinds = ["id", "bigint"]
-    kinds += dice.sample(list(KINDS), dice.choice([2, 3, 4]))
+    kinds += dice.sample([*KINDS, *WEIGHED], dice.choice([2, 3, 4]))
     if dice.random() < 0.3:
         kinds.append(dice.choice(kinds[2:]))
     if dice.random() < 0.2:
@@ -196,8 +201,9 @@ def elements(dice: random.Random) -> str:
     first, last = (f"[.{weight:04X}.0020.0004]" for weight in (weights[0], weights[4]))
     entries["00DF"] = last + last
     entries["00E4"] = first + "[.0000.002B.0002]"
-    texts = dice.sample(["0063 0068", "0063 0068 0063", "0061 0062", "0020 0061", "0073 0020"], 2)
-    for text in ["0063 0068", *texts][: dice.choice([0, 1, 1, 1, 2, 3])]:
+    texts = dice.sample(["0061 0062", "0020 0061", "0073 0020", "0063 0061", "0073 0073"], 2)
+    texts = ["0063 0068", *dice.choice([[], ["0063 0068 0063"]]), *texts]
+    for text in texts[: dice.choice([0, 1, 1, 2, 2, 3, 4])]:
         weight = dice.choice([*weights, 0x0F10, 0x0205])
         more = dice.choice(["", "", last, "[.0000.002B.0002]"])
         entries[text] = f"[.{weight:04X}.0020.0002]{more}"
