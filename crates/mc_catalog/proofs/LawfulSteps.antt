@@ -76,6 +76,7 @@ table_kept n m table le h = record {
   indexes = h.indexes;
   column_names = h.column_names;
   index_names = h.index_names;
+  lawful_names = h.lawful_names;
 }
 
 -- the built-in collations are nine
@@ -149,6 +150,7 @@ new_table_lawful n name file = record {
   indexes = λ k d lt. absurd (omega arith);
   column_names = λ i j d lt under. absurd (omega arith);
   index_names = λ i j d lt under. absurd (omega arith);
+  lawful_names = λ k d lt. absurd (omega arith);
 }
 
 -- an entry that begins a table
@@ -240,6 +242,7 @@ column_kept n table column h own fresh few = record {
       table.indexes h.indexes;
   column_names = apart_more (λ column. column.name) table.columns column h.column_names fresh;
   index_names = h.index_names;
+  lawful_names = h.lawful_names;
 }
 
 -- what the tests of a column leave
@@ -263,14 +266,15 @@ column_step so_far number name form (Some table) is h formed e = of (type_of so_
         last_kept so_far table new is h (column_kept (length so_far.collations) table column own (type_lawful so_far.collations form type formed f) clear.1 (below 32 (length table.columns) clear.2)) refl
 
 -- A table with one more index is lawful.
-index_kept : (n : ℕ) (table : TableDecl) (index : IndexDecl) → IsLawfulTable n table → IsLawfulIndex table.columns index → list_any (λ other. bytes_eq other.name index.name) table.indexes ≡ false → length table.indexes < 8 → IsLawfulTable n (record table { indexes = table.indexes ++ index ∷ [] })
-index_kept n table index h own fresh few = record {
+index_kept : (n : ℕ) (table : TableDecl) (index : IndexDecl) → IsLawfulTable n table → IsLawfulIndex table.columns index → IsLawfulName index.name → list_any (λ other. bytes_eq other.name index.name) table.indexes ≡ false → length table.indexes < 8 → IsLawfulTable n (record table { indexes = table.indexes ++ index ∷ [] })
+index_kept n table index h own formed fresh few = record {
   few_columns = h.few_columns;
   few_indexes = omega (arith, few, length-append table.indexes (index ∷ []));
   types = h.types;
   indexes = All-push (IsLawfulIndex table.columns) table.indexes index h.indexes own;
   column_names = h.column_names;
   index_names = apart_more (λ index. index.name) table.indexes index h.index_names fresh;
+  lawful_names = All-push (λ (other : IndexDecl). IsLawfulName other.name) table.indexes index h.lawful_names formed;
 }
 
 -- a front that is no shorter than 1 and no longer than the values
@@ -307,10 +311,10 @@ index_clear name column prefix table e =
     (list_any (λ index. bytes_eq index.name name) table.indexes) (nat_le 8 (length table.indexes)) e
 
 -- an entry that adds an index
-index_step : (so_far : Progress) (number : ℕ) (name column : List ℕ) (prefix : Option ℕ) (last : Option TableDecl) → so_far.last ≡ last → IsLawfulSoFar (catalog_of so_far) → first_of (tests_in (index_tests name column prefix) last) ≡ None → IsLawfulSoFar (catalog_of (record so_far { last = option_and_then (with_index name column prefix) last }))
+index_step : (so_far : Progress) (number : ℕ) (name column : List ℕ) (prefix : Option ℕ) (last : Option TableDecl) → so_far.last ≡ last → IsLawfulSoFar (catalog_of so_far) → IsLawfulName name → first_of (tests_in (index_tests name column prefix) last) ≡ None → IsLawfulSoFar (catalog_of (record so_far { last = option_and_then (with_index name column prefix) last }))
 unfolding with_index
-index_step so_far number name column prefix None is h e = absurd (cc)
-index_step so_far number name column prefix (Some table) is h e = of (indexed_column table.columns column) refl
+index_step so_far number name column prefix None is h formed e = absurd (cc)
+index_step so_far number name column prefix (Some table) is h formed e = of (indexed_column table.columns column) refl
   where
     of : (place : Option ℕ) → indexed_column table.columns column ≡ place → IsLawfulSoFar (catalog_of (record so_far { last = option_map (λ place. record table { indexes = table.indexes ++ record { name = name; column = place; prefix = prefix } ∷ [] }) place }))
     of None f = absurd (let k : true ≡ false = rw f at (index_clear name column prefix table e).0 in cc)
@@ -319,7 +323,7 @@ index_step so_far number name column prefix (Some table) is h e = of (indexed_co
         let own = subst (λ (last : Option TableDecl). IfSome last (IsLawfulTable (length so_far.collations))) is (last_lawful so_far h) in
         let index : IndexDecl = record { name = name; column = place; prefix = prefix } in
         let new : TableDecl = record table { indexes = table.indexes ++ index ∷ [] } in
-        last_kept so_far table new is h (index_kept (length so_far.collations) table index own (index_lawful table.columns name column prefix place f clear.1) clear.2 (below 8 (length table.indexes) clear.3)) refl
+        last_kept so_far table new is h (index_kept (length so_far.collations) table index own (index_lawful table.columns name column prefix place f clear.1) formed clear.2 (below 8 (length table.indexes) clear.3)) refl
 
 -- A lawful catalog stays lawful with an entry that has no fault.
 pub lawful_entry : (number : ℕ) (so_far : Progress) (entry : Entry) → IsLawfulSoFar (catalog_of so_far) → IsFormed entry → first_of (tests_of so_far entry) ≡ None → IsLawfulSoFar (catalog_of (with_entry number so_far entry))
@@ -328,7 +332,7 @@ lawful_entry number so_far (Collation name set kind file rules) h formed e = col
 lawful_entry number so_far (Connection name) h formed e = connection_kept so_far name h
 lawful_entry number so_far (Table name file) h formed e = table_step so_far number name file h e
 lawful_entry number so_far (Column name form) h formed e = column_step so_far number name form so_far.last refl h formed e
-lawful_entry number so_far (Index name column prefix) h formed e = index_step so_far number name column prefix so_far.last refl h e
+lawful_entry number so_far (Index name column prefix) h formed e = index_step so_far number name column prefix so_far.last refl h formed e
 
 -- The same of an entry that was added, if it was.
 pub lawful_added : (number : ℕ) (so_far : Progress) (entry : Entry) (new : Progress) (answer : Result (Unit {0}) CatalogFaultKind) → IsLawfulSoFar (catalog_of so_far) → IsFormed entry → OnOk answer (first_of (tests_of so_far entry) ≡ None) → OnOk answer (new ≡ with_entry number so_far entry) → OnOk answer (IsLawfulSoFar (catalog_of new))

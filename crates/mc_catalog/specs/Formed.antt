@@ -11,7 +11,7 @@ use Rattle.mc_catalog.specs.declared.catalog.ColumnType.TheVariants.{VarChar as 
 use Rattle.mc_catalog.specs.declared.entry.ColumnForm.{ColumnForm}
 use Rattle.mc_catalog.specs.declared.entry.ColumnForm.TheVariants.{Plain, Char, VarChar}
 use Rattle.mc_catalog.specs.declared.entry.Entry.{Entry}
-use Rattle.mc_catalog.specs.declared.entry.Entry.TheVariants.{Collation, Column}
+use Rattle.mc_catalog.specs.declared.entry.Entry.TheVariants.{Collation, Column, Index}
 
 -- A type without a collation has a length within its limit.
 abbrev pub IsFormedType : ColumnType → Type 0
@@ -27,10 +27,11 @@ IsFormedColumn (Plain type) = IsFormedType type
 IsFormedColumn (Char n collation) = (1 ≤ n) × (n ≤ longest_char)
 IsFormedColumn (VarChar n collation) = (1 ≤ n) × (n ≤ longest_varchar)
 
--- An entry has a length within its limit, a collation's name, and rules only where its kind takes
--- them.
+-- An entry has a length within its limit, an index or a collation a name, and rules stand only where
+-- the kind takes them.
 abbrev pub IsFormed : Entry → Type 0
 IsFormed (Collation name set kind file rules) =
     IsLawfulName name × IfSome rules (λ _. IsTrue (may_have_rules kind))
 IsFormed (Column name form) = IsFormedColumn form
+IsFormed (Index name column prefix) = IsLawfulName name
 IsFormed _ = ⊤

@@ -95,6 +95,7 @@ pub record IsLawfulTable (collations : ℕ) (table : TableDecl) : Type 0 where
   pub indexes : All (IsLawfulIndex table.columns) table.indexes
   pub column_names : AreApart (map (λ column. column.name) table.columns)
   pub index_names : AreApart (map (λ index. index.name) table.indexes)
+  pub lawful_names : All (λ index. IsLawfulName index.name) table.indexes
 
 -- A catalog begins with the built-in collations, and its parts are lawful and within the limits. So
 -- far it may have tables whose columns are to come.

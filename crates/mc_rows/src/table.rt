@@ -71,7 +71,10 @@ impl<L> Table<L> {
         requires { i < length self.now }
         ensures row { slice_get self.now i ≡ Some result.now }
         ensures tick { steps.new ≡ min (steps.old + 1) (2 ^ 64 - 1) }
+        ensures later { steps.old ≤ steps.new }
+        ensures steps { steps.new ≤ steps.old + 1 }
     {
+        let _before = steps.count();
         steps.tick();
         &self.rows.as_slice()[i as usize]
     }
