@@ -3,9 +3,9 @@ use Rattle.std.proofs.Common.{◌≡◌, ℕ, ◌<◌, false, List, [], Some, No
 use Rattle.std.proofs.Common.{ap, subst, ◌∙◌}
 use Rattle.std.proofs.lemmas.Bool.{true≢false}
 use Rattle.std.proofs.lemmas.Option.{option_and_then_some, slice_get_within}
-use Rattle.std.specs.Prelude.{IfSome, IsSome, IsSomeAnd, Option}
+use Rattle.std.specs.Prelude.{All, IfSome, IsSomeAnd, Option}
 use Rattle.std.specs.Prelude.{option_map, slice_get, unwrap_or}
-use Rattle.std.specs.Option.{option_map_or, is_some}
+use Rattle.std.specs.Option.{option_map_or}
 use Rattle.mc_catalog.specs.Fits.{FitsCatalog}
 use Rattle.mc_catalog.specs.Lawful.{IsLawful, IsLawfulTable}
 use Rattle.mc_catalog.specs.declared.catalog.Catalog.{Catalog}
@@ -14,6 +14,7 @@ use Rattle.mc_catalog.specs.declared.catalog.IndexDecl.{IndexDecl}
 use Rattle.mc_catalog.specs.declared.catalog.TableDecl.{TableDecl}
 use Rattle.mc_charset.specs.declared.collation_id.CollId.{CollId}
 use Rattle.mc_order.specs.Meaning.{Meaning}
+use Rattle.mc_range.specs.Bounds.{HasBounds}
 use Rattle.mc_range.specs.declared.interval.Interval.{Interval}
 use Rattle.mc_typing.specs.Columns.{column_ty}
 use Rattle.mc_typing.specs.OfType.{IsRowOf}
@@ -25,14 +26,14 @@ use Rattle.mc_eval.specs.Acceptance.{acceptance}
 use Rattle.mc_eval.specs.Node.{place}
 use Rattle.mc_eval.specs.declared.truth.Truth.TheVariants.{No}
 use Rattle.mc_plan.specs.Entries.{is_entry, is_entry_of}
-use Rattle.mc_plan.specs.Plans.{HasPlaces, chosen, first_given, index_choice, index_collation}
-use Rattle.mc_plan.specs.Plans.{indexes_at, plan_of, ranges}
+use Rattle.mc_plan.specs.Plans.{HasPlaces, HasPlanBounds, chosen, first_given, index_choice}
+use Rattle.mc_plan.specs.Plans.{index_collation, indexes_at, plan_of, ranges}
 use Rattle.mc_plan.specs.Rejects.{LosesNone}
-use Rattle.mc_plan.specs.Steps.{HasSet, RejectFound, RejectRest}
+use Rattle.mc_plan.specs.Steps.{HasSet, IsInBook, RejectFound, RejectRest}
 use Rattle.mc_plan.specs.declared.plan.Plan.{Plan}
 use Rattle.mc_plan.specs.declared.plan.Plan.TheVariants.{Scan, ByIndex}
 use Rattle.mc_plan.proofs.Found.{is_given}
-use Rattle.mc_plan.proofs.Served.{has_set}
+use Rattle.mc_plan.proofs.Served.{has_set, index_in, lawful_at, some_collations}
 
 abbrev Found : Type 0
 Found = ℕ × (ℕ × List Interval)
@@ -98,8 +99,21 @@ rejects_lent meaning q table columns conjuncts indexes found d e f h =
 
 -- Its index and its conjunct are there.
 
-some_is : {A : Type 0} (o : Option A) (x : A) → o ≡ Some x → IsSome o
-some_is o x e = ap is_some e
+-- The collations of a table's indexes are in a book that has as many as the catalog.
+pub indexes_in_book : (count : ℕ) (c : Catalog) (q : Typed) (p : ℕ) (table : TableDecl)
+    → IsLawful c → count ≡ length c.collations → q.table ≡ Some p
+    → slice_get c.tables p ≡ Some table → (index : IndexDecl)
+    → IsInBook count (columns_at c q.table) index
+indexes_in_book count c q p table l counted e at index =
+    subst (λ columns. IsInBook count columns index)
+    (sym (ap (columns_at c) e ∙ columns_are c p table at))
+    (subst (λ n. IsInBook n table.columns index) (sym counted)
+    (index_in (length c.collations) table (some_collations c l) (lawful_at c l p table at) index))
+
+some_in_book : (count : ℕ) (o : Option CollId) (coll : CollId) → o ≡ Some coll
+    → IfSome o (λ id. id.0 < count) → IsSomeAnd o (λ id. id.0 < count)
+some_in_book count None coll e h = absurd (cc)
+some_in_book count (Some id) coll e h = h
 
 given_within : {A B : Type 0} (given : A → Option B) (xs : List A) (found : ℕ × B)
     → first_given given xs ≡ Some found → found.0 < length xs
@@ -111,39 +125,50 @@ given_within {A = A} given xs found h =
     of_place None e k = absurd k
     of_place (Some x) e k = slice_get_within xs found.0 x e
 
-choice_places : (meaning : ℕ → Meaning) (columns : List ColumnDecl) (conjuncts : List TypedExpr)
-    (index : IndexDecl) (it : ℕ × List Interval)
-    → index_choice meaning columns conjuncts index ≡ Some it
-    → (it.0 < length conjuncts) × IsSome (index_collation columns index)
-choice_places meaning columns conjuncts index it h = option_and_then_some
+choice_places : (count : ℕ) (meaning : ℕ → Meaning) (columns : List ColumnDecl)
+    (conjuncts : List TypedExpr) (index : IndexDecl) (it : ℕ × List Interval)
+    → IsInBook count columns index → index_choice meaning columns conjuncts index ≡ Some it
+    → (it.0 < length conjuncts)
+    × IsSomeAnd (index_collation columns index) (λ coll. coll.0 < count)
+choice_places count meaning columns conjuncts index it b h = option_and_then_some
     (λ (coll : CollId). first_given (ranges meaning index coll) conjuncts)
     (index_collation columns index) it h (λ coll e k. (
       given_within (ranges meaning index coll) conjuncts it k,
-      some_is (index_collation columns index) coll e,
+      some_in_book count (index_collation columns index) coll e b,
     ))
 
-places_in : (meaning : ℕ → Meaning) (columns : List ColumnDecl) (conjuncts : List TypedExpr)
-    (it : ℕ × List Interval) (o : Option IndexDecl)
+places_in : (count : ℕ) (meaning : ℕ → Meaning) (columns : List ColumnDecl)
+    (conjuncts : List TypedExpr) (it : ℕ × List Interval) (o : Option IndexDecl)
+    → ((index : IndexDecl) → IsInBook count columns index)
     → IsSomeAnd o (λ index. index_choice meaning columns conjuncts index ≡ Some it)
-    → (it.0 < length conjuncts)
-    × IsSomeAnd o (λ index. IsSome (index_collation columns index))
-places_in meaning columns conjuncts it None h = absurd h
-places_in meaning columns conjuncts it (Some index) h =
-    choice_places meaning columns conjuncts index it h
+    → (it.0 < length conjuncts) × IsSomeAnd o
+    (λ index. IsSomeAnd (index_collation columns index) (λ coll. coll.0 < count))
+places_in count meaning columns conjuncts it None b h = absurd h
+places_in count meaning columns conjuncts it (Some index) b h =
+    choice_places count meaning columns conjuncts index it (b index) h
 
-places_of : (c : Catalog) (meaning : ℕ → Meaning) (q : Typed) (o : Option Found)
+places_of : (count : ℕ) (c : Catalog) (meaning : ℕ → Meaning) (q : Typed) (o : Option Found)
+    → ((index : IndexDecl) → IsInBook count (columns_at c q.table) index)
     → first_given (index_choice meaning (columns_at c q.table) q.conjuncts) (indexes_at c q.table)
-    ≡ o → HasPlaces c q (plan_of o)
-places_of c meaning q None h = tt
-places_of c meaning q (Some found) h =
-    places_in meaning (columns_at c q.table) q.conjuncts found.1
-    (slice_get (indexes_at c q.table) found.0) (is_given
+    ≡ o → HasPlaces count c q (plan_of o)
+places_of count c meaning q None b h = tt
+places_of count c meaning q (Some found) b h =
+    places_in count meaning (columns_at c q.table) q.conjuncts found.1
+    (slice_get (indexes_at c q.table) found.0) b (is_given
     (index_choice meaning (columns_at c q.table) q.conjuncts) (indexes_at c q.table) found h)
 
-pub has_places : (c : Catalog) (meaning : ℕ → Meaning) (q : Typed) (plan : Plan)
-    → plan ≡ chosen c meaning q → HasPlaces c q plan
+pub has_places : (count : ℕ) (c : Catalog) (meaning : ℕ → Meaning) (q : Typed) (plan : Plan)
+    → ((index : IndexDecl) → IsInBook count (columns_at c q.table) index)
+    → plan ≡ chosen c meaning q → HasPlaces count c q plan
 unfolding chosen
-has_places c meaning q plan e = subst (HasPlaces c q) (sym e) (places_of c meaning q _ refl)
+has_places count c meaning q plan b e =
+    subst (HasPlaces count c q) (sym e) (places_of count c meaning q _ b refl)
+
+-- Of the ends of its intervals bounds can be made.
+pub has_bounds : (found : Option Found) (plan : Plan) → plan ≡ plan_of found
+    → IfSome found (λ it. All HasBounds it.1.1) → HasPlanBounds plan
+has_bounds None plan e h = subst HasPlanBounds (sym e) tt
+has_bounds (Some found) plan e h = subst HasPlanBounds (sym e) h
 
 -- No row that it leaves out is accepted.
 

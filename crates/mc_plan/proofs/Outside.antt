@@ -2,7 +2,7 @@
 use Rattle.std.proofs.Common.{◌≡◌, ℕ, ◌<◌, Bool, true, false, List, [], ◌∷◌, Some, None, length}
 use Rattle.std.proofs.Common.{get_or, zero, suc, arith, refl, sym, ap, subst, ◌∙◌}
 use Rattle.std.proofs.lemmas.Bool.{and_from, or_left, or_right, both_ways}
-use Rattle.std.specs.Prelude.{IfOk, IfSome, Option, Result, Ok, Err, option_and_then}
+use Rattle.std.specs.Prelude.{All, IfOk, IfSome, Option, Result, Ok, Err, option_and_then}
 use Rattle.std.specs.Prelude.{slice_get, ◌≢◌}
 use Rattle.mc_charset.specs.declared.charset.Charset.{Charset}
 use Rattle.std.specs.List.{list_any}
@@ -16,6 +16,7 @@ use Rattle.mc_catalog.specs.declared.catalog.ColumnDecl.{ColumnDecl}
 use Rattle.mc_catalog.specs.declared.catalog.IndexDecl.{IndexDecl}
 use Rattle.mc_order.specs.Meaning.{Meaning}
 use Rattle.mc_order.specs.Order.{list_order}
+use Rattle.mc_range.specs.Bounds.{EndsAreBounds, HasBounds}
 use Rattle.mc_range.specs.Condition.{IsCondOf}
 use Rattle.mc_range.specs.Finds.{FindsAll, IsFrom, IsIn, IsInOne, IsUpTo, index_list}
 use Rattle.mc_range.specs.Intervals.{intervals_of}
@@ -155,3 +156,15 @@ found_rejects meaning index coll e m set (Some it) (Ok (Some intervals)) same k 
     rejects_outside meaning index coll e it intervals (subst FindsAll same f) (λ p. r p it)
     (c ∙ ap (λ s. cond_of s index.column coll e) of_set) (subst (λ s. IsCondOf s it) of_set o)
     (i ∙ ap (λ n. intervals_of n index.prefix it) same)
+
+-- Of the ends of the intervals that are answered of a condition bounds can be made.
+pub found_bounds : {E : Type 0} (m : Meaning) (prefix : Option ℕ) (set : Charset)
+    (cond : Option Cond) (r : Result (Option (List Interval)) E) → set ≡ m.charset
+    → EndsAreBounds m → IfSome cond (IsCondOf set)
+    → IfOk r (λ found. found ≡ option_and_then (intervals_of m prefix) cond)
+    → IfOk r (λ found. IfSome found (All HasBounds))
+found_bounds m prefix set cond (Err error) k b o i = tt
+found_bounds m prefix set cond (Ok None) k b o i = tt
+found_bounds m prefix set None (Ok (Some intervals)) k b o i = absurd (cc)
+found_bounds m prefix set (Some it) (Ok (Some intervals)) k b o i =
+    b prefix it intervals (subst (λ s. IsCondOf s it) k o) (sym i)

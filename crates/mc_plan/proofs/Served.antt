@@ -85,7 +85,7 @@ column_in : (count : ℕ) (columns : List ColumnDecl) (o : Option ColumnDecl) �
 column_in count columns None z l = tt
 column_in count columns (Some column) z l = in_catalog count column.ty z (l column refl)
 
-index_in : (count : ℕ) (table : TableDecl) → 0 < count → IsLawfulTable count table
+pub index_in : (count : ℕ) (table : TableDecl) → 0 < count → IsLawfulTable count table
     → (index : IndexDecl) → IsInBook count table.columns index
 index_in count table z l index =
     column_in count table.columns (slice_get table.columns index.column) z

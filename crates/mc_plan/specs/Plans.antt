@@ -1,6 +1,6 @@
 -- The plan of a statement: the index by which its rows are found. MySQL 8.0 manual, 8.8.1.
 use Rattle.std.specs.Prelude.{ℕ, suc, ◌<◌, List, [], ◌∷◌, Option, Some, None, ⊤, length}
-use Rattle.std.specs.Prelude.{IsSome, IsSomeAnd}
+use Rattle.std.specs.Prelude.{All, IsSomeAnd}
 use Rattle.std.specs.Prelude.{option_and_then, option_map, slice_get, unwrap_or}
 use Rattle.mc_catalog.specs.declared.catalog.Catalog.{Catalog}
 use Rattle.mc_catalog.specs.declared.catalog.ColumnDecl.{ColumnDecl}
@@ -10,6 +10,7 @@ use Rattle.mc_catalog.specs.declared.catalog.ColumnType.TheVariants.{VarBinary}
 use Rattle.mc_catalog.specs.declared.catalog.IndexDecl.{IndexDecl}
 use Rattle.mc_charset.specs.declared.collation_id.CollId.{CollId}
 use Rattle.mc_order.specs.Meaning.{Meaning}
+use Rattle.mc_range.specs.Bounds.{HasBounds}
 use Rattle.mc_range.specs.Intervals.{intervals_of}
 use Rattle.mc_range.specs.declared.interval.Interval.{Interval}
 use Rattle.mc_typing.specs.SoundStatements.{columns_at}
@@ -67,10 +68,15 @@ unfoldable pub chosen : Catalog → (ℕ → Meaning) → Typed → Plan
 chosen c meaning q = plan_of (first_given
     (index_choice meaning (columns_at c q.table) q.conjuncts) (indexes_at c q.table))
 
--- The plan's index is one of the table's, over a column that has a collation, and its conjunct is
--- one of the statement's.
-abbrev pub HasPlaces : Catalog → Typed → Plan → Type 0
-HasPlaces c q Scan = ⊤
-HasPlaces c q (ByIndex index conjunct intervals) = (conjunct < length q.conjuncts)
+-- The plan's index is one of the table's, over a column whose collation is one of so many, and its
+-- conjunct is one of the statement's.
+abbrev pub HasPlaces : ℕ → Catalog → Typed → Plan → Type 0
+HasPlaces count c q Scan = ⊤
+HasPlaces count c q (ByIndex index conjunct intervals) = (conjunct < length q.conjuncts)
     × IsSomeAnd (slice_get (indexes_at c q.table) index)
-    (λ it. IsSome (index_collation (columns_at c q.table) it))
+    (λ it. IsSomeAnd (index_collation (columns_at c q.table) it) (λ coll. coll.0 < count))
+
+-- Bounds can be made of the ends of the plan's intervals.
+abbrev pub HasPlanBounds : Plan → Type 0
+HasPlanBounds Scan = ⊤
+HasPlanBounds (ByIndex index conjunct intervals) = All HasBounds intervals

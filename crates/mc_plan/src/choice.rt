@@ -3,6 +3,7 @@ ghost use Rattle.mc_catalog.specs.Lawful.{IsLawful};
 ghost use Rattle.mc_plan.specs.Constants.{HasTexts};
 ghost use Rattle.mc_plan.specs.Plans.{
   HasPlaces,
+  HasPlanBounds,
   chosen,
   first_given,
   index_choice,
@@ -10,6 +11,7 @@ ghost use Rattle.mc_plan.specs.Plans.{
   ranges,
 };
 ghost use Rattle.mc_plan.specs.Rejects.{LosesNone};
+ghost use Rattle.mc_range.specs.Bounds.{HasBounds};
 ghost use Rattle.mc_range.specs.Condition.{IsCondOf};
 ghost use Rattle.mc_range.specs.Intervals.{intervals_of};
 ghost use Rattle.mc_plan.specs.Steps.{
@@ -85,6 +87,7 @@ fn ranges<B: Book>(
         (λ found. found ≡ ranges (B.meaning book.now) index.now coll e.now) }
     ensures rejects { IfOk result (λ found.
         IfSome found (RejectsOutside (B.meaning book.now) index.now coll e.now)) }
+    ensures bounds { IfOk result (λ found. IfSome found (All HasBounds)) }
 {
     condition_law();
     let collation = book.by_id(coll);
@@ -109,6 +112,7 @@ fn first_conjunct<B: Book>(
         ≡ first_given (ranges (B.meaning book.now) index.now coll) conjuncts.now) }
     ensures rejects { IfOk result (λ found. IfSome found
         (λ it. RejectOutside (B.meaning book.now) index.now coll conjuncts.now it.1)) }
+    ensures bounds { IfOk result (λ found. IfSome found (λ it. All HasBounds it.1)) }
 {
     for (i, e) in conjuncts.iter().enumerate() {
         match ranges(alloc, book, index, coll, e)? {
@@ -133,6 +137,7 @@ fn index_choice<B: Book>(
         ≡ index_choice (B.meaning book.now) columns.now conjuncts.now index.now) }
     ensures rejects { IfOk result (λ found. IfSome found (λ it.
         RejectRest (B.meaning book.now) columns.now conjuncts.now index.now it.1)) }
+    ensures bounds { IfOk result (λ found. IfSome found (λ it. All HasBounds it.1)) }
 {
     match index_collation(columns, index) {
         Some(coll) => first_conjunct(alloc, book, index, coll, conjuncts),
@@ -154,6 +159,7 @@ fn first_index<B: Book>(
         ≡ first_given (index_choice (B.meaning book.now) columns.now conjuncts.now) indexes.now) }
     ensures rejects { IfOk result (λ found. IfSome found
         (RejectFound (B.meaning book.now) columns.now conjuncts.now indexes.now)) }
+    ensures bounds { IfOk result (λ found. IfSome found (λ it. All HasBounds it.1.1)) }
 {
     for (i, index) in indexes.iter().enumerate() {
         match index_choice(alloc, book, columns, conjuncts, index)? {
@@ -195,7 +201,8 @@ pub fn choose<B: Book>(alloc: Global, q: &Typed, c: &Catalog, book: &B) -> Resul
         (λ id. (B.meaning book.now id).charset) }
     requires sound { IsSoundStatement c.now q.now }
     ensures is { IfOk result (λ plan. plan ≡ chosen c.now (B.meaning book.now) q.now) }
-    ensures places { IfOk result (HasPlaces c.now q.now) }
+    ensures places { IfOk result (HasPlaces (B.count book.now) c.now q.now) }
+    ensures bounds { IfOk result HasPlanBounds }
     ensures loses_none { IfOk result (LosesNone c.now (B.meaning book.now) q.now) }
 {
     sound_law();

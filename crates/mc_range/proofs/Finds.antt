@@ -76,7 +76,7 @@ equal_cell_found m known (Some k) codes (Str text) a of_set h =
     let b = known.of_text text of_set in
     let u = m.level_list 1 (chars m.charset text) in
     equal_found m known k codes u
-    (beside m known k codes u a (weights_of m known (chars m.charset text) b))
+    (beside m known k codes u a (weights_of m known.lawful (chars m.charset text) b))
     (first_equal m known codes (chars m.charset text) a b h)
 
 -- Not above a constant: not above its upper end.
@@ -87,7 +87,8 @@ up_to : (m : Meaning) → Known m → (prefix : Option ℕ) (codes other : List 
 up_to m known None codes other a b h = h
 up_to m known (Some k) codes other a b h =
     let u = m.level_list 1 other in
-    let end = high_end m known k codes u (beside m known k codes u a (weights_of m known other b))
+    let weights = weights_of m known.lawful other b in
+    let end = high_end m known k codes u (beside m known k codes u a weights)
     (first_not_gt m known codes other a b h) in
     not_above-trans known.given.total m.pad m.space (flat_list m (take k codes)) end.0
     (upper_end m (Some k) other) end.2
@@ -102,7 +103,8 @@ from_on m known None codes other a b h =
     not_above-back known.given.total m.pad m.space (flat_list m other) (flat_list m codes) h
 from_on m known (Some k) codes other a b h =
     let u = m.level_list 1 other in
-    let end = low_end m known k codes u (beside m known k codes u a (weights_of m known other b))
+    let weights = weights_of m known.lawful other b in
+    let end = low_end m known k codes u (beside m known k codes u a weights)
     (first_not_lt m known codes other a b h) in
     not_above-trans known.given.total m.pad m.space (lower_end m (Some k) other) end.0
     (flat_list m (take k codes))
@@ -185,11 +187,12 @@ within_by : (few : Bool) (list intervals : List Interval) →
 within_by true list intervals h = cc
 within_by false list intervals h = absurd (let never : ⊥ = cc in never)
 
-within_is : (list intervals : List Interval) → within_most list ≡ Some intervals →
+-- The intervals that are named where they are no more than the most, and where they are few.
+pub within_is : (list intervals : List Interval) → within_most list ≡ Some intervals →
     list ≡ intervals
 within_is list intervals h = within_by (nat_le (length list) most_intervals) list intervals h
 
-some_is : (list intervals : List Interval) → Some list ≡ Some intervals → list ≡ intervals
+pub some_is : (list intervals : List Interval) → Some list ≡ Some intervals → list ≡ intervals
 some_is list intervals h = cc
 
 moved : (m : Meaning) (list : List ℕ) (one other : List Interval) → one ≡ other →

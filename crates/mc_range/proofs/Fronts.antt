@@ -45,7 +45,7 @@ beside m known k codes u chars weights =
       chars = front;
       weights = weights;
       out = outcome m k known.given codes u (known.lawful.cut k codes chars)
-          (weights_of m known (take k codes) front);
+          (weights_of m known.lawful (take k codes) front);
     }
 
 passing_list : (m : Meaning) (u : List ℕ) → may_pass m ≡ true →
@@ -110,7 +110,7 @@ low_end_by m known k codes u chars weights h (inl among) =
     let v = m.level_list 1 (take k codes) in (
       v ++ behind_low m,
       candidate_end m k u (behind_low m) v among,
-      lift_low m known v (take k codes) (weights_of m known (take k codes) chars) chars
+      lift_low m known v (take k codes) (weights_of m known.lawful (take k codes) chars) chars
           (not_above-itself known.given.total m.pad m.space v),
     )
 low_end_by m known k codes u chars weights h (inr (inl follows)) = (
@@ -144,7 +144,7 @@ high_end_by m known k codes u chars weights h (inl among) =
     let v = m.level_list 1 (take k codes) in (
       v ++ behind_high m,
       candidate_end m k u (behind_high m) v among,
-      lift_high m known v (take k codes) (weights_of m known (take k codes) chars) chars
+      lift_high m known v (take k codes) (weights_of m known.lawful (take k codes) chars) chars
           (not_above-itself known.given.total m.pad m.space v),
     )
 high_end_by m known k codes u chars weights h (inr (inl follows)) = (
@@ -190,7 +190,7 @@ equal_by : (m : Meaning) → Known m → (k : ℕ) (codes u : List ℕ) →
 equal_by m known k codes u chars weights h (inl among) =
     let v = m.level_list 1 (take k codes) in
     let same = not_above-itself known.given.total m.pad m.space v in
-    let own = weights_of m known (take k codes) chars in (
+    let own = weights_of m known.lawful (take k codes) chars in (
       around m v,
       candidate_interval m k u v among,
       in_between m known (v ++ behind_low m) (flat_list m (take k codes)) (v ++ behind_high m)

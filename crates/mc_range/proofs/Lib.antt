@@ -6,6 +6,7 @@ pub mod Fronts
 pub mod LikeFinds
 pub mod Literals
 pub mod Finds
+pub mod Bounds
 pub mod Loops
 pub mod SafeChars
 pub mod Counts

@@ -60,10 +60,11 @@ padded_single m known padded =
           let never : PadSpace ≡ NoPad = sym padded ∙ bare in cc)
     ]
 
-pub weights_of : (m : Meaning) → Known m → (codes : List ℕ) → AreCharsOf m.charset codes →
+-- The first list of characters has weights alone.
+pub weights_of : (m : Meaning) → IsLawful m → (codes : List ℕ) → AreCharsOf m.charset codes →
     All (IsWeight m) (m.level_list 1 codes)
-weights_of m known codes chars =
-    known.lawful.bounds 1 codes (omega arith) known.lawful.settings.some_level chars
+weights_of m lawful codes chars =
+    lawful.bounds 1 codes (omega arith) lawful.settings.some_level chars
 
 positive : (m : Meaning) (list : List ℕ) → All (IsWeight m) list →
     All (λ weight. separator < weight) list
@@ -128,7 +129,7 @@ low_by m known c codes weights chars h (inr more) =
     ap (λ l. is_gt (list_order m.pad m.space (c ++ l) (flat_list m codes))) (low_many m more)
     ∙ ap (λ l. is_gt (list_order m.pad m.space (c ++ separator ∷ []) l)) flat.1
     ∙ ap is_gt (then_many m known more c (m.level_list 1 codes) [] flat.0 weights
-    (weights_of m known codes chars))
+    (weights_of m known.lawful codes chars))
     ∙ then_not_gt (list_order m.pad m.space c (m.level_list 1 codes))
     (list_order NoPad m.space [] flat.0) h
     (gt_from (list_order NoPad m.space [] flat.0) (known.prolonged m.space [] flat.0))
@@ -167,7 +168,7 @@ high_by m known c codes weights chars h (inr more) =
     ap (λ l. is_gt (list_order m.pad m.space (flat_list m codes) (c ++ l))) (high_many m more)
     ∙ ap (λ l. is_gt (list_order m.pad m.space l (c ++ separator ∷ top ∷ []))) flat.1
     ∙ ap is_gt (then_many m known more (m.level_list 1 codes) c flat.0 (top ∷ [])
-    (weights_of m known codes chars) weights)
+    (weights_of m known.lawful codes chars) weights)
     ∙ then_not_gt (list_order m.pad m.space (m.level_list 1 codes) c)
     (list_order NoPad m.space flat.0 (top ∷ [])) h
     (below_top m known (m.level_list 1 codes) flat.0 bound)
@@ -200,7 +201,7 @@ order_by m known codes other chars others (inr more) =
       ap (λ l. list_order m.pad m.space l (flat_list m other)) flat.1
           ∙ ap (list_order m.pad m.space (m.level_list 1 codes ++ separator ∷ flat.0)) next.1
           ∙ then_many m known more (m.level_list 1 codes) (m.level_list 1 other) flat.0 next.0
-          (weights_of m known codes chars) (weights_of m known other others),
+          (weights_of m known.lawful codes chars) (weights_of m known.lawful other others),
     )
 
 -- The order of two flat lists is that of the first lists, and where these are equal another one.

@@ -8,9 +8,10 @@ use Rattle.std.specs.List.{All, AllZip, Contains, prefix_len, take_while}
 use Rattle.std.proofs.lemmas.List.Elements.{All-contains, Contains-append_right, All-from_get_or}
 use Rattle.std.proofs.lemmas.List.Sums.{prefix_len-le-length, prefix_len_passes}
 use Rattle.std.proofs.lemmas.List.{get_or-take}
+use Rattle.mc_charset.specs.declared.charset.Charset.{Charset}
 use Rattle.mc_order.specs.declared.pad.Pad.{Pad}
 use Rattle.mc_order.specs.declared.pad.Pad.TheVariants.{PadSpace, NoPad}
-use Rattle.mc_order.specs.Consequences.{IsSameChar}
+use Rattle.mc_order.specs.Consequences.{CharsAreCut, IsSameChar}
 use Rattle.mc_order.specs.Laws.{greatest_weight, IsWeight}
 use Rattle.mc_order.specs.Meaning.{Meaning, separator, flat_list, first_chars, AreCharsOf, IsSafe}
 use Rattle.mc_order.specs.Order.{list_order}
@@ -71,7 +72,7 @@ begins_by m known codes front rest chars begins more flat NoPad bare =
 begins_by m known codes front rest chars begins more flat PadSpace padded =
     let first = flat_single m (padded_single m known padded) codes in
     let whole : flat_list m codes ≡ front ++ rest = first ∙ begins in
-    let weights = subst (All (IsWeight m)) begins (weights_of m known codes chars) in
+    let weights = subst (All (IsWeight m)) begins (weights_of m known.lawful codes chars) in
     in_between m known (front ++ separator ∷ []) (flat_list m codes) (front ++ top ∷ [])
     (ap (λ l. is_gt (list_order m.pad m.space (front ++ separator ∷ []) l)) whole
     ∙ begins_low m known front rest padded weights)
@@ -121,10 +122,11 @@ safe_taken m known codes =
     subst (IsSafe m) (sym (get_or-take (prefix_len (is_safe m) codes) codes i 0 below))
     ((known.safe (get_or codes i 0)).0 (prefix_len_passes (is_safe m) codes i 0 below)))
 
-chars_kept : (m : Meaning) → Known m → (prefix : Option ℕ) (codes : List ℕ) →
-    AreCharsOf m.charset codes → AreCharsOf m.charset (first_chars prefix codes)
-chars_kept m known None codes chars = chars
-chars_kept m known (Some k) codes chars = (known.cut k codes chars).0
+-- What an index keeps of characters of a set are such characters.
+pub chars_kept : (set : Charset) → CharsAreCut set → (prefix : Option ℕ) (codes : List ℕ) →
+    AreCharsOf set codes → AreCharsOf set (first_chars prefix codes)
+chars_kept set cut None codes chars = chars
+chars_kept set cut (Some k) codes chars = (cut k codes chars).0
 
 -- What matches the literals in front begins with the list of the safe ones.
 literals_begin : (m : Meaning) → Known m → (prefix : Option ℕ) (literals codes : List ℕ) →
@@ -147,15 +149,17 @@ literals_begin m known prefix literals codes of_set chars zip =
     (zip_take (IsSameChar m) n literals (take (length literals) codes) zip)) in
     let safe : All (IsSafe m) (take n kept) = safe_taken m known kept in
     let literal_chars : AreCharsOf m.charset (take n kept) =
-    (known.cut n kept (chars_kept m known prefix literals of_set)).0 in
+    (known.cut n kept (chars_kept m.charset known.cut prefix literals of_set)).0 in
     let code_chars : AreCharsOf m.charset (take n front ++ drop n front) =
-    subst (AreCharsOf m.charset) (sym split) (chars_kept m known prefix codes chars) in (
+    subst (AreCharsOf m.charset) (sym split)
+    (chars_kept m.charset known.cut prefix codes chars) in (
       m.level_list 1 (drop n front),
       ap (m.level_list 1) (sym split) ∙ known.safe_front (take n kept) (take n front)
           (drop n front) literal_chars code_chars safe pairs,
     )
 
-list_named : (pad : Pad) (list : List ℕ) (intervals : List Interval) →
+-- The interval that is named of a list.
+pub list_named : (pad : Pad) (list : List ℕ) (intervals : List Interval) →
     like_list pad list ≡ Some intervals → intervals ≡ begins_with pad list ∷ []
 list_named pad [] intervals h = absurd (let never : ⊥ = cc in never)
 list_named pad (w ∷ list) intervals h = cc
@@ -175,5 +179,5 @@ like_found m known prefix literals codes intervals of_set chars zip named =
       subst (λ (list : List Interval). Contains list one)
           (sym (list_named m.pad front intervals named)) (Contains-first one []),
       begins_found m known (first_chars prefix codes) front begins.0
-          (chars_kept m known prefix codes chars) begins.1,
+          (chars_kept m.charset known.cut prefix codes chars) begins.1,
     )

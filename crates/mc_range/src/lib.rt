@@ -6,7 +6,8 @@
 //! their first characters. There a text that is equal to a constant may have one of several lists,
 //! the candidates (`specs/Candidates.antt`), and LIKE uses the literals that no contraction of
 //! other characters reaches (`specs/Safe.antt`). `specs/Finds.antt` says what the intervals are
-//! good for: no text that meets the condition lies outside of them.
+//! good for: no text that meets the condition lies outside of them. Of their ends bounds can be
+//! made, between which an index is read (`specs/Bounds.antt`).
 //!
 //! Read the modules in this order: `condition` and `interval`; `lists` (the lists of a text);
 //! `place` and `ends` (the least and the greatest candidate); `equal`; `safe` and `like`;

@@ -4,8 +4,8 @@ use Rattle.mc_catalog.specs.Fits.{FitsCatalog}
 use Rattle.mc_typing.specs.SoundStatements.{row_types}
 use Rattle.mc_plan.specs.Constants.{HasTexts}
 use Rattle.mc_plan.specs.Steps.{IsInBook}
-use Rattle.mc_plan.proofs.Chosen.{chosen_in, chosen_none, found_lent, has_places, loses_none}
-use Rattle.mc_plan.proofs.Chosen.{rejects_lent, scan_loses_none}
+use Rattle.mc_plan.proofs.Chosen.{chosen_in, chosen_none, found_lent, has_bounds, has_places}
+use Rattle.mc_plan.proofs.Chosen.{indexes_in_book, loses_none, rejects_lent, scan_loses_none}
 use Rattle.mc_plan.proofs.Served.{Sound, have_texts, indexes_in, lawful_at, some_collations}
 use Rattle.mc_plan.proofs.choice.choose.Goals as goal
 
@@ -52,8 +52,15 @@ returns-clause-is g c =
 
 pub returns-clause-places : goal.returns-clause-places
 returns-clause-places g c =
-    has_places c.args.c.now (g.B.Book.meaning c.args.book.now) c.args.q.now c.plan_of.result
-    (returns-clause-is g c)
+    let table = c.table_at-table.result.now in
+    has_places (g.B.Book.count c.args.book.now) c.args.c.now (g.B.Book.meaning c.args.book.now)
+    c.args.q.now c.plan_of.result (indexes_in_book (g.B.Book.count c.args.book.now) c.args.c.now
+    c.args.q.now c.in-Some.place table c.requires.lawful c.requires.fits.counted c.in-Some.is
+    c.table_at-table.ensures) (returns-clause-is g c)
+
+pub returns-clause-bounds : goal.returns-clause-bounds
+returns-clause-bounds g c =
+    has_bounds c.in_ok-found.found c.plan_of.result c.plan_of.ensures c.in_ok-found.ensures.bounds
 
 pub returns-clause-loses_none : goal.returns-clause-loses_none
 returns-clause-loses_none g c =

@@ -1,3 +1,4 @@
+use Rattle.mc_range.proofs.Bounds.{ends_are_bounds}
 use Rattle.mc_range.proofs.Finds.{finds_all}
 use Rattle.mc_range.proofs.Lifts.{Known}
 use Rattle.mc_range.proofs.Outcome.{Given}
@@ -31,6 +32,13 @@ returns-clause-finds g c =
       levels = orders.levels;
     } in
     finds_all m known
+
+pub returns-clause-bounds : goal.returns-clause-bounds
+returns-clause-bounds g c =
+    let m = g.C.Collation.meaning c.args.collation.now in
+    let laws = c.collation_laws.ensures in
+    ends_are_bounds m laws.lawful laws.bounded laws.tail_weights
+    (c.characters_laws.ensures.cut m.charset) (c.characters_laws.ensures.of_text m.charset)
 
 pub returns-clause-safe : goal.returns-clause-safe
 returns-clause-safe g c = safe_is_decided (g.C.Collation.meaning c.args.collation.now)
