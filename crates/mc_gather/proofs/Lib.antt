@@ -8,5 +8,5 @@ pub mod Planned
 pub mod Gathered
 pub mod Built
 pub mod Texts
-pub mod Literals
-pub mod Ends
+pub mod HeldIndexes
+pub mod Space

@@ -26,6 +26,15 @@ zip_at R (x ∷ xs) (z ∷ ys) h zero y e =
     let same : z ≡ y = cc in (x, (refl, subst (R x) same h.0))
 zip_at R (x ∷ xs) (z ∷ ys) h (suc i) y e = zip_at R xs ys h.1 i y e
 
+pub zip_get : {A B : Type 0} (R : A → B → Type 0) (xs : List A) (ys : List B) → AllZip R xs ys
+    → (i : ℕ) (x : A) → slice_get xs i ≡ Some x → (y : B) × ((slice_get ys i ≡ Some y) × R x y)
+zip_get R [] [] h i x e = absurd (cc)
+zip_get R [] (z ∷ ys) h i x e = absurd h
+zip_get R (w ∷ xs) [] h i x e = absurd h
+zip_get R (w ∷ xs) (z ∷ ys) h zero x e =
+    let same : w ≡ x = cc in (z, (refl, subst (λ v. R v z) same h.0))
+zip_get R (w ∷ xs) (z ∷ ys) h (suc i) x e = zip_get R xs ys h.1 i x e
+
 pub each_get : {A : Type 0} (P : A → Type 0) (xs : List A) → AllByRecursion P xs → (i : ℕ) (x : A)
     → slice_get xs i ≡ Some x → P x
 each_get P [] h i x e = absurd (cc)

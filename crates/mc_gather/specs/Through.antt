@@ -1,15 +1,11 @@
 -- The rows that an index has in intervals: MySQL 8.0 manual, 8.2.1.2, Range Optimization.
-use Rattle.std.specs.Prelude.{◌≡◌, ◌↔◌, ◌≤◌, ℕ, List, Option, Some, All, IfSome}
+use Rattle.std.specs.Prelude.{◌≡◌, ◌↔◌, ◌≤◌, ℕ, List, All}
 use Rattle.std.specs.List.{Contains}
 use Rattle.std.specs.List.Sorted.{IsStrictlyIncreasing}
 use Rattle.mc_index.specs.Entries.{SeenEntry, SeenIndex}
 use Rattle.mc_index.specs.Laws.{IsBetween}
-use Rattle.mc_key.specs.Keys.{AreBoundNumbers}
 use Rattle.mc_order.specs.Laws.{greatest_weight}
-use Rattle.mc_order.specs.Meaning.{Meaning}
-use Rattle.mc_range.specs.Condition.{IsCondOf}
-use Rattle.mc_range.specs.Intervals.{intervals_of}
-use Rattle.mc_range.specs.declared.condition.Cond.{Cond}
+use Rattle.mc_range.specs.Bounds.{HasBounds}
 use Rattle.mc_range.specs.declared.interval.Interval.{Interval}
 
 -- The entry's key lies in one of the intervals.
@@ -28,18 +24,7 @@ pub record AreRowsThrough (index : SeenIndex) (intervals : List Interval) (rows 
   pub ascending : IsStrictlyIncreasing rows
   pub exact : (row : ℕ) → Contains rows row ↔ IsReached index intervals row
 
--- The ends that an interval has are numbers of bounds.
-pub record HasBounds (interval : Interval) : Type 0 where
-  pub lo : IfSome interval.lo AreBoundNumbers
-  pub hi : IfSome interval.hi AreBoundNumbers
-
 -- Bounds can be made of the intervals' ends, for the index's keys.
 pub record AreBounds (index : SeenIndex) (intervals : List Interval) : Type 0 where
   pub space : index.space ≤ greatest_weight
   pub ends : All HasBounds intervals
-
--- The ends of the intervals that a condition names, in an index of whole texts or of first
--- characters, are numbers of bounds.
-abbrev pub EndsAreBounds : Meaning → Type 0
-EndsAreBounds m = (prefix : Option ℕ) (it : Cond) (intervals : List Interval)
-    → IsCondOf m.charset it → intervals_of m prefix it ≡ Some intervals → All HasBounds intervals

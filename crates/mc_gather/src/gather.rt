@@ -1,9 +1,10 @@
 ghost use Rattle.mc_gather.specs.Runs.{HasRunRows, places_from, rows_at, run_of};
-ghost use Rattle.mc_gather.specs.Through.{AreBounds, AreRowsThrough, HasBounds};
+ghost use Rattle.mc_gather.specs.Through.{AreBounds, AreRowsThrough};
 ghost use Rattle.mc_index.specs.Digits.{binary_digits};
 ghost use Rattle.mc_index.specs.Places.{end_place, first_place};
 ghost use Rattle.mc_key.specs.Keys.{AreBoundNumbers};
 ghost use Rattle.mc_order.specs.Laws.{greatest_weight};
+ghost use Rattle.mc_range.specs.Bounds.{HasBounds};
 ghost use Rattle.std.specs.List.{range_with_len};
 ghost use Rattle.std.specs.List.Sorted.{IsNonDecreasingBy, IsPermutation};
 ghost use Rattle.std.specs.Prelude.{
@@ -50,6 +51,7 @@ fn first_place<W>(
     requires bounded { space ≤ greatest_weight }
     requires numbers { IfSome lo.now AreBoundNumbers }
     ensures is { IfOk result (λ place. place ≡ first_place index.now lo.now) }
+    ensures later { work.old ≤ work.new }
     ensures work { work.new ≤ work.old + binary_digits (length index.now.entries) }
 {
     match lo {
@@ -75,6 +77,7 @@ fn end_place<W>(
     requires bounded { space ≤ greatest_weight }
     requires numbers { IfSome hi.now AreBoundNumbers }
     ensures is { IfOk result (λ place. place ≡ end_place index.now hi.now) }
+    ensures later { work.old ≤ work.new }
     ensures work { work.new ≤ work.old + binary_digits (length index.now.entries) }
 {
     match hi {
@@ -100,6 +103,7 @@ fn run_of<W>(
     requires bounded { space ≤ greatest_weight }
     requires bounds { HasBounds interval.now }
     ensures is { IfOk result (λ run. run ≡ run_of index.now interval.now) }
+    ensures later { work.old ≤ work.new }
     ensures work { work.new ≤ work.old + 2 * binary_digits (length index.now.entries) }
 {
     let first = first_place(alloc, index, pad, space, &interval.lo, work)?;
@@ -123,6 +127,7 @@ fn put_runs<W>(
     requires bounds { All HasBounds intervals.now }
     requires none { runs.old.items ≡ [] }
     ensures are { OnOk result (runs.new.items ≡ map (run_of index.now) intervals.now) }
+    ensures later { work.old ≤ work.new }
     ensures work { work.new
         ≤ work.old + length intervals.now * (2 * binary_digits (length index.now.entries)) }
 {
@@ -181,6 +186,7 @@ fn put_rows<W>(
     requires bounds { AreBounds index.now intervals.now }
     requires none { rows.old.items ≡ [] }
     ensures are { OnOk result (HasRunRows index.now intervals.now rows.new.items) }
+    ensures later { work.old ≤ work.new }
     ensures work { work.new
         ≤ work.old + length intervals.now * (2 * binary_digits (length index.now.entries)) }
 {
@@ -192,7 +198,7 @@ fn put_rows<W>(
 }
 
 /// The numbers of the rows that an index has in intervals, each once, in ascending order. `pad` and
-/// `space` are those of the index's keys. It seeks the ends of each interval, and looks at no other
+/// `space` are those of the index's keys. It seeks the ends of each interval, and compares no other
 /// entry. MySQL 8.0 manual, 8.2.1.2.
 pub fn rows_through<W>(
     alloc: Global,
@@ -206,6 +212,7 @@ pub fn rows_through<W>(
     requires space { space ≡ index.now.space }
     requires bounds { AreBounds index.now intervals.now }
     ensures are { IfOk result (AreRowsThrough index.now intervals.now) }
+    ensures later { work.old ≤ work.new }
     ensures work { work.new
         ≤ work.old + length intervals.now * (2 * binary_digits (length index.now.entries)) }
 {

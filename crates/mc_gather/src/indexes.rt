@@ -96,18 +96,7 @@ fn add_entry<C: Collation>(
     }
 }
 
-/// The row of this number, which is fetched once.
-fn fetch_row<'a, L>(table: &'a Table<L>, i: u32, steps: &mut Steps<L>) -> &'a Row
-    requires { i < length table.now }
-    ensures row { slice_get table.now i ≡ Some result.now }
-    ensures fetched { steps.old ≤ steps.new }
-    ensures steps { steps.new ≤ steps.old + 1 }
-{
-    let _before = steps.count();
-    table.fetch(i, steps)
-}
-
-/// Adds the entries of a table's rows to a builder without any. Each row is fetched once.
+/// Adds the entries of a table's rows to a builder without any. Each row is fetched at most once.
 fn add_entries<C: Collation, L>(
     alloc: Global,
     collation: &C,
@@ -124,14 +113,7 @@ fn add_entries<C: Collation, L>(
     ensures steps { steps.new ≤ steps.old + length table.now }
 {
     for i in 0..table.len() {
-        add_entry(
-            alloc,
-            collation,
-            index,
-            i,
-            fetch_row(table, i, steps),
-            builder,
-        )?;
+        add_entry(alloc, collation, index, i, table.fetch(i, steps), builder)?;
     }
     Ok(())
 }
@@ -292,7 +274,7 @@ fn put_all_indexes<B: Book, L>(
 }
 
 /// The indexes of each table of a catalog over its rows, by the book's collations. Each row is
-/// fetched once for each index of its table. MySQL 8.0 manual, 8.3.1.
+/// fetched at most once for each index of its table. MySQL 8.0 manual, 8.3.1.
 pub fn build_indexes<B: Book, L>(
     alloc: Global,
     c: &Catalog,

@@ -6,8 +6,8 @@
 //! order (`specs/Through`): those that a scan finds there, and no others (`specs/IndexLaws`), and
 //! so those that a plan reads (`specs/PlanLaws`).
 //!
-//! Read the modules in this order: `indexes`, `gather`; and `index_laws`, which other crates prove
-//! with.
+//! Read the modules in this order: `indexes`, `tables`, `gather`; and `index_laws`, which other
+//! crates prove with.
 //!
 //! `build_indexes(alloc, &catalog, &rows, &book, &mut steps)` has an index for each that the
 //! catalog declares.
@@ -16,7 +16,9 @@
 mod gather;
 mod index_laws;
 mod indexes;
+mod tables;
 
 pub use gather::rows_through;
-pub use index_laws::{ends_law, plan_law, through_law};
+pub use index_laws::{plan_law, space_law, through_law};
 pub use indexes::build_indexes;
+pub use tables::held;

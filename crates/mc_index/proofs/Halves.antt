@@ -18,21 +18,23 @@ use Rattle.mc_index.proofs.Between.{parted}
 use Rattle.mc_index.proofs.Counts.{count_by-map, count_split, not_true, not_both}
 use Rattle.mc_index.proofs.Digits.{digits_rise, half_digits}
 
--- All members in front of a part pass the test, none behind it, and the ticks that are left are
--- enough for the part.
-pub record IsHalved {X : Type 0} (p : X → Bool) (xs : List X) (from size used most : ℕ) :
+-- All members in front of a part pass the test, none behind it, the ticks have not fallen, and
+-- those that are left are enough for the part.
+pub record IsHalved {X : Type 0} (p : X → Bool) (xs : List X) (from size start used most : ℕ) :
     Type 0 where
   pub within : from + size ≤ length xs
   pub yes : AllWithin (λ x. p x ≡ true) xs 0 from
   pub no : AllWithin (λ x. p x ≡ false) xs (from + size) (length xs)
+  pub later : start ≤ used
   pub ticks : used + binary_digits size ≤ most
 
 pub whole : {X : Type 0} (p : X → Bool) (xs : List X) (used : ℕ) →
-    IsHalved p xs 0 (length xs) used (used + binary_digits (length xs))
+    IsHalved p xs 0 (length xs) used used (used + binary_digits (length xs))
 whole p xs used = record {
   within = omega arith;
   yes = λ k d low high. absurd (omega arith);
   no = λ k d low high. absurd (omega arith);
+  later = omega arith;
   ticks = omega arith;
 }
 
@@ -44,24 +46,26 @@ fewer_ticks size less used now most some half one ticks =
     omega arith
 
 module _ {X : Type 0} (p : X → Bool) (xs : List X) (parted : IsPartitionedBy p xs) where
-  pub upper_half : (from size used now most : ℕ) (x : X) → 0 < size → now ≤ used + 1 →
-      x ≡ get_or xs (from + size / 2) x → p x ≡ true → IsHalved p xs from size used most →
-      IsHalved p xs (from + (size / 2 + 1)) (size - (size / 2 + 1)) now most
-  upper_half from size used now most x some one read passes h =
+  pub upper_half : (from size start used now most : ℕ) (x : X) → 0 < size → used ≤ now →
+      now ≤ used + 1 → x ≡ get_or xs (from + size / 2) x → p x ≡ true →
+      IsHalved p xs from size start used most →
+      IsHalved p xs (from + (size / 2 + 1)) (size - (size / 2 + 1)) start now most
+  upper_half from size start used now most x some rises one read passes h =
       let within = h.within in
       record {
         within = omega arith;
         yes = λ k d low high. parted k (from + size / 2) d (omega arith) (omega arith)
             (ap p (sym (get_or_read xs (from + size / 2) x (omega arith) read d)) ∙ passes);
         no = λ k d low high. h.no k d (omega arith) high;
+        later = omega (arith, rises, h.later);
         ticks = fewer_ticks size (size - (size / 2 + 1)) used now most some (omega arith) one
             h.ticks;
       }
 
-  pub lower_half : (from size used now most : ℕ) (x : X) → 0 < size → now ≤ used + 1 →
-      x ≡ get_or xs (from + size / 2) x → p x ≡ false → IsHalved p xs from size used most →
-      IsHalved p xs from (size / 2) now most
-  lower_half from size used now most x some one read fails h =
+  pub lower_half : (from size start used now most : ℕ) (x : X) → 0 < size → used ≤ now →
+      now ≤ used + 1 → x ≡ get_or xs (from + size / 2) x → p x ≡ false →
+      IsHalved p xs from size start used most → IsHalved p xs from (size / 2) start now most
+  lower_half from size start used now most x some rises one read fails h =
       let within = h.within in
       record {
         within = omega arith;
@@ -69,6 +73,7 @@ module _ {X : Type 0} (p : X → Bool) (xs : List X) (parted : IsPartitionedBy p
         no = λ k d low high. not_true (p (get_or xs k d)) (λ e.
             not_both (p (get_or xs (from + size / 2) d)) (parted (from + size / 2) k d low high e)
             (ap p (sym (get_or_read xs (from + size / 2) x (omega arith) read d)) ∙ fails));
+        later = omega (arith, rises, h.later);
         ticks = fewer_ticks size (size / 2) used now most some (omega arith) one h.ticks;
       }
 
@@ -123,8 +128,8 @@ counted_place pad space entries held now bound side view of is =
     (ap (λ (n : SeenIndex). n.entries) view)
 
 -- Where nothing is left all that pass are found.
-pub all_found : {X : Type 0} (p : X → Bool) (xs : List X) (from size used most : ℕ) → size ≤ 0 →
-    IsHalved p xs from size used most → from ≡ count_by p xs
-all_found p xs from size used most none h =
+pub all_found : {X : Type 0} (p : X → Bool) (xs : List X) (from size start used most : ℕ) →
+    size ≤ 0 → IsHalved p xs from size start used most → from ≡ count_by p xs
+all_found p xs from size start used most none h =
     let within = h.within in
     count_split p xs from (omega arith) h.yes (λ k d low high. h.no k d (omega arith) high)

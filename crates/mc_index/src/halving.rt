@@ -12,8 +12,10 @@ use mc_key::{Bound, compare_bound};
 fn is_before<W>(entry: &Entry, bound: &Bound, side: Side, work: &mut Steps<W>) -> bool
     requires { IsKeyed bound.now.pad bound.now.space entry.now }
     ensures told { result ≡ holds_before bound.now side entry.now }
+    ensures later { work.old ≤ work.new }
     ensures work { work.new ≤ work.old + 1 }
 {
+    let _before = work.count();
     let order = compare_bound(&entry.key, bound, work);
     match side {
         Side::Before => order.is_lt(),
@@ -31,6 +33,7 @@ pub(crate) fn passed_len<W>(
     requires keyed { AreKeyed bound.now.pad bound.now.space entries.now }
     requires sorted { IsPartitionedBy (holds_before bound.now side) entries.now }
     ensures count { result ≡ count_by (holds_before bound.now side) entries.now }
+    ensures later { work.old ≤ work.new }
     ensures work { work.new ≤ work.old + binary_digits (length entries.now) }
 {
     let mut from = 0;

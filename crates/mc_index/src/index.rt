@@ -80,6 +80,7 @@ impl Index {
     pub fn seek<W>(&self, bound: &Bound, side: Side, work: &mut Steps<W>) -> usize
         requires { IsBoundOf self.now bound.now }
         ensures place { result ≡ place_of self.now bound.now.numbers side }
+        ensures later { work.old ≤ work.new }
         ensures work { work.new ≤ work.old + binary_digits (length self.now.entries) }
     {
         order_laws();
@@ -92,6 +93,7 @@ impl Index {
         requires lo { IfSome lo (λ bound. IsBoundOf self.now bound.now) }
         requires hi { IfSome hi (λ bound. IsBoundOf self.now bound.now) }
         ensures count { result ≡ count_between self.now (numbers lo.entry) (numbers hi.entry) }
+        ensures later { work.old ≤ work.new }
         ensures work { work.new ≤ work.old + 2 * binary_digits (length self.now.entries) }
     {
         order_laws();
@@ -105,6 +107,7 @@ impl Index {
     fn first_place<W>(&self, lo: Option<&Bound>, work: &mut Steps<W>) -> usize
         requires { IfSome lo (λ bound. IsBoundOf self.now bound.now) }
         ensures place { result ≡ first_place self.now (numbers lo.entry) }
+        ensures later { work.old ≤ work.new }
         ensures work { work.new ≤ work.old + binary_digits (length self.now.entries) }
     {
         match lo {
@@ -117,6 +120,7 @@ impl Index {
     fn end_place<W>(&self, hi: Option<&Bound>, work: &mut Steps<W>) -> usize
         requires { IfSome hi (λ bound. IsBoundOf self.now bound.now) }
         ensures place { result ≡ end_place self.now (numbers hi.entry) }
+        ensures later { work.old ≤ work.new }
         ensures work { work.new ≤ work.old + binary_digits (length self.now.entries) }
     {
         match hi {

@@ -10,9 +10,9 @@ add_entry-requires-clause-other g c =
 pub loop-i-preserved : goal.loop-i-preserved
 loop-i-preserved g c = (
   row_more (g.C.Collation.meaning c.args.collation.now) c.args.index.now c.args.table.now c.loop-i.i
-      c.fetch_row.result.now c.loop-i.builder c.add_entry.new.builder c.fetch_row.ensures.row
+      c.fetch.result.now c.loop-i.builder c.add_entry.new.builder c.fetch.ensures.row
       c.loop-i.invariant.0 c.add_entry.ensures.pad c.add_entry.ensures.space
       c.in_ok-add_entry.ensures.added,
-  omega (arith, c.fetch_row.ensures.fetched, c.loop-i.invariant.1),
-  omega (arith, c.fetch_row.ensures.steps, c.loop-i.invariant.2),
+  omega (arith, c.fetch.ensures.later, c.loop-i.invariant.1),
+  omega (arith, c.fetch.ensures.steps, c.loop-i.invariant.2),
 )

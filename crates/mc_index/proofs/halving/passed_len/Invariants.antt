@@ -7,7 +7,7 @@ use Rattle.mc_index.proofs.halving.passed_len.Given as goal
 
 abbrev pub invariant-loop-size : goal.invariant-loop-size
 invariant-loop-size g l =
-    IsHalved (holds_before l.bound l.side) l.entries l.from l.size l.work
+    IsHalved (holds_before l.bound l.side) l.entries l.from l.size l.initial.work l.work
     (l.initial.work + binary_digits (length l.entries))
 
 abbrev pub decreases-loop-size : goal.decreases-loop-size
