@@ -7,4 +7,6 @@ pub mod Backwards
 pub mod Replaced
 pub mod Trimmed
 pub mod LeftOver
+pub mod Endings
+pub mod Ended
 mod StandardFacts

@@ -1,9 +1,10 @@
 -- Where a text is within the greatest length, and how long copies, digits and joined texts are.
-use Rattle.std.proofs.Common.{◌≡◌, Bool, IsTrue, false, ℕ, zero, suc, ◌+◌, ◌*◌, ◌/◌, ◌<◌, ◌≤◌, List, [], ◌∷◌, ◌++◌, Some, None, length, append_assoc, append-nil, refl, sym, ap, ◌∙◌, arith, length-append}
+use Rattle.std.proofs.Common.{◌≡◌, Bool, IsTrue, false, ℕ, zero, suc, ◌+◌, ◌*◌, ◌/◌, ◌%◌, ◌<◌, ◌≤◌, List, [], ◌∷◌, ◌++◌, Some, None, length, append_assoc, append-nil, refl, sym, ap, ◌∙◌, arith, length-append}
 use Rattle.std.specs.List.{flat_map, join_by, repeat, sum_by}
 use Rattle.std.proofs.lemmas.Bool.{false≢true}
 use Rattle.std.proofs.lemmas.Bool.Decides.{nat_tests}
 use Rattle.std.proofs.lemmas.List.Sums.{sum_by-cons}
+use Rattle.std.proofs.lemmas.Nat.{div-add-mod'}
 use Rattle.std.proofs.Math.Nat.{suc-mul, div-lt_iff_lt-mul, le-div_iff_mul-le}
 use Rattle.mc_values.specs.Hexadecimal.{hex_digits, hex_pair}
 use Rattle.mc_values.specs.Values.{greatest_string, within_limit}
@@ -97,3 +98,25 @@ joined_short f separator first others parts n len front out e k h g o =
     ap (λ t. Some t) (o ∙ ap (λ t. t ++ flat_map (λ part. separator ++ f part) others) g)
     ∙ sym (ap (λ ps. within_limit (join_by f separator ps)) e
     ∙ within_limit-fits _ (omega (arith, some_short _ len h, k, length-joined f separator first others)))
+
+repeat-add : (n m : ℕ) (xs : List ℕ) → repeat n xs ++ repeat m xs ≡ repeat (n + m) xs
+repeat-add zero m xs = let e : m ≡ zero + m = omega arith in ap (λ k. repeat k xs) e
+repeat-add (suc n) m xs =
+    let e : suc (n + m) ≡ suc n + m = omega arith in
+    append_assoc xs (repeat n xs) (repeat m xs) ∙ ap (λ ys. xs ++ ys) (repeat-add n m xs) ∙ ap (λ k. repeat k xs) e
+
+repeat-repeat : (n m : ℕ) (xs : List ℕ) → repeat n (repeat m xs) ≡ repeat (n * m) xs
+repeat-repeat zero m xs = let e : zero ≡ zero * m = omega arith in ap (λ k. repeat k xs) e
+repeat-repeat (suc n) m xs =
+    let e : m + n * m ≡ suc n * m = omega (arith, suc-mul n m) in
+    ap (λ ys. repeat m xs ++ ys) (repeat-repeat n m xs) ∙ repeat-add m (n * m) xs ∙ ap (λ k. repeat k xs) e
+
+-- Copies of a block of copies, and those that are left, are as many copies as are wanted.
+pub in_blocks : (count each : ℕ) (text block out more : List ℕ) → block ≡ repeat each text → more ≡ out ++ repeat (count / each) block
+    → more ++ repeat (count % each) text ≡ out ++ repeat count text
+in_blocks count each text block out more b m =
+    ap (λ xs. xs ++ repeat (count % each) text) (m ∙ ap (λ ys. out ++ repeat (count / each) ys) b)
+    ∙ append_assoc out (repeat (count / each) (repeat each text)) (repeat (count % each) text)
+    ∙ ap (λ ys. out ++ (ys ++ repeat (count % each) text)) (repeat-repeat (count / each) each text)
+    ∙ ap (λ ys. out ++ ys) (repeat-add (count / each * each) (count % each) text)
+    ∙ ap (λ k. out ++ repeat k text) (div-add-mod' count each)

@@ -192,3 +192,49 @@ replaced_is (first ∷ others) to codes h = refl
 pub replaced_nothing : (from to codes : List ℕ) → from ≡ [] → replaced from to codes ≡ codes
 replaced_nothing [] to codes e = refl
 replaced_nothing (first ∷ others) to codes e = absurd (let n = ap (λ x. length x) e in omega (arith, n))
+
+-- What is kept behind a place, appended, with what is left replaced.
+pub built_kept : (set : Charset) (from to text : List ℕ) (at run : ℕ) (bytes out new : List ℕ)
+    → ((tail : List ℕ) → Spells set (replaced_behind zero from to (chars set (drop run (drop at text)))) tail
+    → Spells set (replaced_behind zero from to (chars set (drop at text))) (bytes ++ tail))
+    → new ≡ out ++ bytes → IsBuilt set from to text at out → IsBuilt set from to text (at + run) new
+built_kept set from to text at run bytes out new k o i tail s =
+    let place : drop run (drop at text) ≡ drop (at + run) text = drop-drop run at text in
+    let behind = subst (λ (t : List ℕ). Spells set (replaced_behind zero from to (chars set t)) tail) (sym place) s in
+    subst (λ (t : List ℕ). Spells set (replaced_behind zero from to (chars set text)) t)
+    (sym (append_assoc out bytes tail) ∙ ap (λ t. t ++ tail) (sym o)) (i (bytes ++ tail) (k tail behind))
+
+-- What is built already is too long.
+pub built_over : Encodes → (set : Charset) (from to to_bytes text : List ℕ) (at : ℕ) (out : List ℕ) → Joins → Spells set to to_bytes
+    → IsWellFormed set (drop at text) → IsBuilt set from to text at out → greatest_string < length out
+    → None ≡ spelled_within set (replaced_behind zero from to (chars set text))
+built_over e set from to to_bytes text at out j t w i h =
+    let tail = spelled_rest j set from to to_bytes zero (chars set (drop at text)) (drop at text) t (e set (drop at text) w) in
+    sym (within_limit-long (out ++ tail.0) (omega (arith, h, length-append out tail.0))) ∙ spelled_value set _ _ (i tail.0 tail.1)
+
+-- What the run before the next copy gives.
+pub record AfterRun (set : Charset) (from to text : List ℕ) (at run : ℕ) (out : List ℕ) : Type 0 where
+  pub within : at + run ≤ length text
+  pub well_formed : IsWellFormed set (drop (at + run) text)
+  pub built : IsBuilt set from to text (at + run) out
+
+pub after_run : (set : Charset) (from to text : List ℕ) (at run : ℕ) (slice bytes out new : List ℕ) → slice ≡ drop at text → bytes ≡ take run (drop at text)
+    → at ≤ length text → run ≤ length slice → IsWellFormed set (drop run slice)
+    → ((to tail : List ℕ) → Spells set (replaced_behind zero from to (chars set (drop run slice))) tail
+    → Spells set (replaced_behind zero from to (chars set slice)) (take run slice ++ tail))
+    → new ≡ out ++ bytes → IsBuilt set from to text at out → AfterRun set from to text at run new
+after_run set from to text at run slice bytes out new s b a r w k o i =
+    let place : drop run slice ≡ drop (at + run) text = ap (λ t. drop run t) s ∙ drop-drop run at text in
+    let kept : (tail : List ℕ) → Spells set (replaced_behind zero from to (chars set (drop run (drop at text)))) tail
+    → Spells set (replaced_behind zero from to (chars set (drop at text))) (take run (drop at text) ++ tail) =
+    subst (λ (t : List ℕ). (tail : List ℕ) → Spells set (replaced_behind zero from to (chars set (drop run t))) tail
+    → Spells set (replaced_behind zero from to (chars set t)) (take run t ++ tail)) s (k to) in
+    record {
+      within = omega (arith, r, ap (λ t. length t) s, length-drop at text, a);
+      well_formed = subst (IsWellFormed set) place w;
+      built = built_kept set from to text at run (take run (drop at text)) out new kept (o ∙ ap (λ t. out ++ t) b) i;
+    }
+
+pub copy_behind : (from text slice : List ℕ) (at run : ℕ) → slice ≡ drop at text → take (length from) (drop run slice) ≡ from → take (length from) (drop (at + run) text) ≡ from
+copy_behind from text slice at run s e =
+    ap (λ t. take (length from) t) (sym (ap (λ t. drop run t) s ∙ drop-drop run at text)) ∙ e

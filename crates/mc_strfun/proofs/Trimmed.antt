@@ -1,7 +1,7 @@
 -- Copies removed at the sides, and the bytes of what is left.
-use Rattle.std.proofs.Common.{◌≡◌, ℕ, ◌+◌, ◌-◌, ◌<◌, true, false, List, [], ◌∷◌, ◌++◌, length, take, drop, reverse, refl, sym, ap, subst, ◌∙◌, arith}
+use Rattle.std.proofs.Common.{◌≡◌, ℕ, ◌+◌, ◌-◌, true, false, List, [], ◌∷◌, ◌++◌, length, take, drop, refl, sym, ap, subst, ◌∙◌, arith}
 use Rattle.std.proofs.lemmas.Slice.Eq.{bytes_eq-Decides}
-use Rattle.std.proofs.lemmas.List.{drop-drop, length-reverse, reverse-reverse}
+use Rattle.std.proofs.lemmas.List.{drop-drop, reverse-reverse}
 use Rattle.std.proofs.Math.Seq.{take-append_seam}
 use Rattle.mc_charset.specs.declared.charset.Charset.{Charset}
 use Rattle.mc_charset.specs.Chars.{chars, Spells, IsWellFormed}
@@ -10,8 +10,6 @@ use Rattle.mc_strfun.specs.Trimmed.{behind_copies, trimmed, without_leading, wit
 use Rattle.mc_strfun.specs.declared.trimming.Side.{Side}
 use Rattle.mc_strfun.specs.declared.trimming.Side.TheVariants.{Both, Leading, Trailing}
 use Rattle.mc_strfun.proofs.Joined.{Encodes}
-use Rattle.mc_strfun.proofs.Lengths.{as_long}
-use Rattle.mc_strfun.proofs.Paddings.{chars_filled}
 use Rattle.mc_strfun.proofs.Replaced.{Fronts, by_begins, by_not, front_bytes, not_begun, split_codes}
 
 -- What `chars_law` says.
@@ -90,18 +88,3 @@ left_all e set removed text at w no_copy left =
     let spelled = e set rest left.0 in
     let begun = not_begun set (chars set removed) removed rest (e set removed w) spelled no_copy (begins (chars set removed) (chars set rest)) refl in
     subst (λ (c : List ℕ). Spells set c rest) (sym (left.1 ∙ leading-none (chars set removed) (chars set rest) begun)) spelled
-
--- The end
-
-pub backwards_filled : (set : Charset) (codes text backwards : List ℕ) → Spells set codes text → 0 < length text → Spells set (reverse codes) backwards → 0 < length backwards
-backwards_filled set codes text backwards s h b =
-    omega (arith, chars_filled set codes text s h, length-reverse codes, as_long set (reverse codes) backwards b)
-
-pub trailing_spelled : Decodes → (set : Charset) (removed codes removed_back back kept result : List ℕ) → Spells set (reverse removed) removed_back → Spells set (reverse codes) back
-    → Spells set (without_leading (chars set removed_back) (chars set back)) kept → Spells set (reverse (chars set kept)) result
-    → Spells set (without_trailing removed codes) result
-unfolding without_trailing
-trailing_spelled d set removed codes removed_back back kept result r b k s =
-    let its : chars set kept ≡ without_leading (reverse removed) (reverse codes) =
-    d set _ kept k ∙ ap (λ c. without_leading c (chars set back)) (d set _ removed_back r) ∙ ap (without_leading (reverse removed)) (d set _ back b) in
-    subst (λ (c : List ℕ). Spells set (reverse c) result) its s

@@ -1,7 +1,7 @@
 ghost use Rattle.mc_strfun.specs.Numbers.{natural};
 ghost use Rattle.mc_values.specs.Values.{greatest_string, within_limit};
 ghost use Rattle.std.specs.List.{repeat};
-ghost use Rattle.std.specs.Prelude.{◌≡◌, ◌++◌, ◌*◌, ◌≤◌, IfOk, OnOk, length};
+ghost use Rattle.std.specs.Prelude.{◌≡◌, ◌++◌, ◌*◌, ◌<◌, ◌≤◌, IfOk, OnOk, length};
 
 use crate::number::natural;
 use mc_base::{NoMemory, Text};
@@ -30,12 +30,56 @@ fn copies_of(alloc: Global, text: &[u8], count: usize) -> Result<Text, NoMemory>
 {
     let mut copies = Text::new(alloc);
     copies.reserve(text.len() * count)?;
-    push_copies(&mut copies, text, count)?;
+    push_copies(alloc, &mut copies, text, count)?;
     Ok(copies)
 }
 
-/// Appends so many copies.
-pub(crate) fn push_copies(out: &mut Text, text: &[u8], count: usize) -> Result<(), NoMemory>
+/// How long the text of copies is that is appended at once.
+const BLOCK: usize = 2048;
+
+/// Appends so many copies, those of a short text in blocks.
+pub(crate) fn push_copies(
+    alloc: Global,
+    out: &mut Text,
+    text: &[u8],
+    count: usize,
+) -> Result<(), NoMemory>
+    ensures { OnOk result (out.new ≡ out.old ++ repeat count text.now) }
+{
+    let each = copies_in_block(text.len());
+    if each < 2 || count / each < 4 {
+        return push_each(out, text, count);
+    }
+    push_blocks(alloc, out, text, each, count)
+}
+
+/// How many copies of a text of this length a block has, at least one.
+fn copies_in_block(len: usize) -> usize
+    ensures { 0 < result }
+{
+    (BLOCK / len.max(1)).max(1)
+}
+
+/// Appends so many copies, `each` of them at once, and then those that are left.
+fn push_blocks(
+    alloc: Global,
+    out: &mut Text,
+    text: &[u8],
+    each: usize,
+    count: usize,
+) -> Result<(), NoMemory>
+    requires { 0 < each }
+    ensures { OnOk result (out.new ≡ out.old ++ repeat count text.now) }
+{
+    let mut block = Text::new(alloc);
+    block.reserve(BLOCK)?;
+    push_each(&mut block, text, each)?;
+    push_each(out, block.as_slice(), count / each)?;
+    push_each(out, text, count % each)
+}
+
+/// Appends so many copies one after the other.
+fn push_each(out: &mut Text, text: &[u8], count: usize) -> Result<(), NoMemory>
     ensures { OnOk result (out.new ≡ out.old ++ repeat count text.now) }
 {
     for _copy in 0..count {

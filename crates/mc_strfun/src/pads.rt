@@ -148,7 +148,7 @@ fn filled(
     let mut text = Text::new(alloc);
     text.reserve(len)?;
     text.extend_from_slice(before)?;
-    push_copies(&mut text, pad, copies)?;
+    push_copies(alloc, &mut text, pad, copies)?;
     text.extend_from_slice(rest)?;
     text.extend_from_slice(behind)?;
     Ok(text)

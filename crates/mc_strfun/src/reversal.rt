@@ -24,7 +24,7 @@ pub fn reverse(alloc: Global, set: Charset, text: &Text) -> Result<Text, NoMemor
 }
 
 /// The characters of a slice backwards.
-pub(crate) fn backwards(alloc: Global, set: Charset, text: &[u8]) -> Result<Text, NoMemory>
+fn backwards(alloc: Global, set: Charset, text: &[u8]) -> Result<Text, NoMemory>
     requires { IsWellFormed set text.now }
     ensures { IfOk result (Spells set (reverse (chars set text.now))) }
 {

@@ -13,7 +13,6 @@ ghost use Rattle.std.specs.Prelude.{
 };
 
 use crate::replacement::begins;
-use crate::reversal::backwards;
 use mc_base::{NoMemory, Text};
 use mc_charset::{Charset, chars_law};
 use std::alloc::Global;
@@ -46,11 +45,20 @@ pub fn trim(
     if removed.is_empty() {
         return Text::from_slice(alloc, text.as_slice());
     }
-    let removed = removed.as_slice();
+    Text::from_slice(alloc, trim_slice(side, removed.as_slice(), text.as_slice()))
+}
+
+/// The slice without the copies at the side.
+fn trim_slice<'a>(side: Side, removed: &[u8], text: &'a [u8]) -> &'a [u8]
+    requires filled { 0 < length removed.now }
+    ensures { (set : Charset) → IsWellFormed set removed.now → IsWellFormed set text.now
+        → Spells set (trimmed side (chars set removed.now) (chars set text.now)) result.now }
+{
+    chars_law();
     match side {
-        Side::Both => trim_end(alloc, set, removed, trim_front(removed, text.as_slice())),
-        Side::Leading => Text::from_slice(alloc, trim_front(removed, text.as_slice())),
-        Side::Trailing => trim_end(alloc, set, removed, text.as_slice()),
+        Side::Both => trim_end(removed, trim_front(removed, text)),
+        Side::Leading => trim_front(removed, text),
+        Side::Trailing => trim_end(removed, text),
     }
 }
 
@@ -68,21 +76,19 @@ fn trim_front<'a>(removed: &[u8], text: &'a [u8]) -> &'a [u8]
     &text[at..]
 }
 
-/// The text up to where only copies are left.
-fn trim_end(alloc: Global, set: Charset, removed: &[u8], text: &[u8]) -> Result<Text, NoMemory>
-    requires removed { IsWellFormed set removed.now }
-    requires text { IsWellFormed set text.now }
+/// The text up to where only copies are left. No spelling of a set is the end of a longer one, so
+/// bytes that end with those of a copy are characters that end with the copy.
+fn trim_end<'a>(removed: &[u8], text: &'a [u8]) -> &'a [u8]
     requires filled { 0 < length removed.now }
-    ensures { IfOk result
-        (Spells set (without_trailing (chars set removed.now) (chars set text.now))) }
+    ensures { (set : Charset) → IsWellFormed set removed.now → IsWellFormed set text.now
+        → Spells set (without_trailing (chars set removed.now) (chars set text.now)) result.now }
 {
     chars_law();
-    if !ends(text, removed) {
-        return Text::from_slice(alloc, text);
+    let mut end = text.len();
+    while ends(&text[..end], removed) {
+        end -= removed.len();
     }
-    let removed = backwards(alloc, set, removed)?;
-    let text = backwards(alloc, set, text)?;
-    backwards(alloc, set, trim_front(removed.as_slice(), text.as_slice()))
+    &text[..end]
 }
 
 /// Whether the text ends with these bytes.

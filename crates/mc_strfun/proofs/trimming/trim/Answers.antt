@@ -1,7 +1,6 @@
-use Rattle.std.proofs.Common.{[], sym, ap, subst, ◌∙◌}
+use Rattle.std.proofs.Common.{[], ap, ◌∙◌}
 use Rattle.std.proofs.lemmas.Result.{IfOk-weaker}
-use Rattle.mc_charset.specs.Chars.{chars, IsWellFormed}
-use Rattle.mc_strfun.specs.Trimmed.{without_leading}
+use Rattle.mc_charset.specs.Chars.{chars}
 use Rattle.mc_strfun.proofs.Lengths.{empty_spelled}
 use Rattle.mc_strfun.proofs.Trimmed.{nothing_trimmed}
 use Rattle.mc_strfun.proofs.trimming.trim.Goals as goal
@@ -17,13 +16,3 @@ returns-then-is_empty c =
     (λ value h. nothing_trimmed set c.args.side (chars set removed) (chars set text) text value none (law.encodes set text c.requires.text)
     (h ∙ c.as_slice.ensures))
     c.from_slice.ensures
-
-pub trim_end-requires-clause-text : goal.trim_end-requires-clause-text
-trim_end-requires-clause-text c =
-    let set = c.args.set in
-    let removed = c.as_slice-removed.result.now in
-    let text = c.as_slice-in-Both.result.now in (
-      without_leading (chars set removed) (chars set text),
-      c.trim_front.ensures set (subst (IsWellFormed set) (sym c.as_slice-removed.ensures) c.requires.removed)
-          (subst (IsWellFormed set) (sym c.as_slice-in-Both.ensures) c.requires.text),
-    )
