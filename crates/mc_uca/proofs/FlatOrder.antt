@@ -1,9 +1,11 @@
 -- What both texts begin with decides on no level.
-use Rattle.std.proofs.Common.{◌≡◌, ℕ, zero, suc, ◌<◌, List, ◌∷◌, ◌++◌, append_assoc, sym, ap, subst, ◌∙◌, arith}
+use Rattle.std.proofs.Common.{◌≡◌, ℕ, zero, suc, ◌<◌, ◌≤◌, List, ◌∷◌, ◌++◌, append_assoc, refl, sym, ap, subst, ◌∙◌, arith}
 use Rattle.std.specs.List.{All}
 use Rattle.std.specs.Ordering.{ordering_then}
 use Rattle.mc_order.specs.Meaning.{separator, joined_levels}
 use Rattle.mc_order.specs.Order.{list_order}
+use Rattle.std.specs.declared.cmp.Ordering.{Ordering}
+use Rattle.std.specs.declared.cmp.Ordering.TheVariants.{Less, Equal, Greater}
 use Rattle.mc_order.specs.declared.pad.Pad.{Pad}
 use Rattle.mc_order.specs.declared.pad.Pad.TheVariants.{NoPad}
 
@@ -100,3 +102,67 @@ module _ (front : (pad : Pad) (space : ℕ) (f a b : List ℕ) →
       (sym (joined-same n whole_a (λ level. f level ++ a level) ea))
       ∙ ap (λ y. list_order pad space (joined_levels n whole_a) y)
       (sym (joined-same n whole_b (λ level. f level ++ b level) eb))
+
+-- The orders of so many levels: the first that differs decides.
+abbrev pub levels_order : ℕ → (ℕ → Ordering) → Ordering
+levels_order zero on = on 1
+levels_order (suc zero) on = on 1
+levels_order (suc (suc zero)) on = ordering_then (on 1) (on 2)
+levels_order (suc (suc (suc n))) on = ordering_then (ordering_then (on 1) (on 2)) (on 3)
+
+nested_order : (x y z : Ordering) →
+    ordering_then x (ordering_then y z) ≡ ordering_then (ordering_then x y) z
+nested_order Less y z = refl
+nested_order Equal y z = refl
+nested_order Greater y z = refl
+
+module _ (levels : (space : ℕ) (a b more other : List ℕ) → All (λ weight. separator < weight) a →
+    All (λ weight. separator < weight) b →
+    list_order NoPad space (a ++ separator ∷ more) (b ++ separator ∷ other)
+    ≡ ordering_then (list_order NoPad space a b) (list_order NoPad space more other)) where
+  unpadded_levels : (n space : ℕ) (f g : ℕ → List ℕ) → AreWeights f → AreWeights g →
+      list_order NoPad space (joined_levels n f) (joined_levels n g)
+      ≡ levels_order n (λ level. list_order NoPad space (f level) (g level))
+  unpadded_levels zero space f g pf pg = refl
+  unpadded_levels (suc zero) space f g pf pg = refl
+  unpadded_levels (suc (suc zero)) space f g pf pg =
+      levels space (f 1) (g 1) (f 2) (g 2) (pf 1) (pg 1)
+  unpadded_levels (suc (suc (suc n))) space f g pf pg =
+      ap (λ x. list_order NoPad space x (joined_levels (suc (suc (suc n))) g)) (three n f)
+      ∙ ap (λ y. list_order NoPad space (nested f) y) (three n g)
+      ∙ levels space (f 1) (g 1) (f 2 ++ separator ∷ f 3) (g 2 ++ separator ∷ g 3) (pf 1) (pg 1)
+      ∙ ap (ordering_then (list_order NoPad space (f 1) (g 1)))
+      (levels space (f 2) (g 2) (f 3) (g 3) (pf 2) (pg 2))
+      ∙ nested_order (list_order NoPad space (f 1) (g 1)) (list_order NoPad space (f 2) (g 2))
+      (list_order NoPad space (f 3) (g 3))
+
+  -- The order of the joined levels is that of the first level that differs.
+  pub joined_levels-order : (n space : ℕ) (pad : Pad) (f g : ℕ → List ℕ) →
+      (1 < n → pad ≡ NoPad) → AreWeights f → AreWeights g →
+      list_order pad space (joined_levels n f) (joined_levels n g)
+      ≡ levels_order n (λ level. list_order pad space (f level) (g level))
+  joined_levels-order zero space pad f g more pf pg = refl
+  joined_levels-order (suc zero) space pad f g more pf pg = refl
+  joined_levels-order (suc (suc n)) space pad f g more pf pg =
+      subst (λ p. list_order p space (joined_levels (suc (suc n)) f) (joined_levels (suc (suc n)) g)
+      ≡ levels_order (suc (suc n)) (λ level. list_order p space (f level) (g level)))
+      (sym (more (omega arith))) (unpadded_levels (suc (suc n)) space f g pf pg)
+
+pub at_first : (n : ℕ) (on : ℕ → Ordering) → n < 2 → levels_order n on ≡ on 1
+at_first zero on few = refl
+at_first (suc zero) on few = refl
+at_first (suc (suc n)) on few = absurd (omega arith)
+
+pub at_second : (n : ℕ) (on : ℕ → Ordering) → 2 ≤ n → n < 3 →
+    levels_order n on ≡ ordering_then (on 1) (on 2)
+at_second zero on two few = absurd (omega arith)
+at_second (suc zero) on two few = absurd (omega arith)
+at_second (suc (suc zero)) on two few = refl
+at_second (suc (suc (suc n))) on two few = absurd (omega arith)
+
+pub at_third : (n : ℕ) (on : ℕ → Ordering) → 3 ≤ n →
+    levels_order n on ≡ ordering_then (ordering_then (on 1) (on 2)) (on 3)
+at_third zero on three = absurd (omega arith)
+at_third (suc zero) on three = absurd (omega arith)
+at_third (suc (suc zero)) on three = absurd (omega arith)
+at_third (suc (suc (suc n))) on three = refl

@@ -1,8 +1,12 @@
 -- A text's first characters, and the bytes that spell them.
-use Rattle.std.proofs.Common.{◌≡◌, ℕ, zero, suc, ◌+◌, ◌≤◌, List, [], ◌∷◌, ◌++◌, Some, length, take, drop, append-nil, take_all, refl, sym, ap, subst, ◌∙◌, arith}
+use Rattle.std.proofs.Common.{◌≡◌, ℕ, zero, suc, ◌+◌, ◌⊎◌, ◌≤◌, Bool, true, false, List, [], ◌∷◌, ◌++◌, Some, length, take, drop, append-nil, take_all, refl, sym, ap, subst, ◌∙◌, arith}
+use Rattle.std.specs.Bool.{OnTrue}
 use Rattle.std.proofs.Math.Seq.{take-add}
 use Rattle.mc_charset.specs.declared.charset.Charset.{Charset}
 use Rattle.mc_charset.specs.Chars.{spell, spell_all, chars, Spells}
+use Rattle.std.proofs.lemmas.List.{take-append-drop, take-take}
+use Rattle.mc_order.specs.Boundary.{SharesFront}
+use Rattle.mc_uca.specs.FreshFronts.{IsFreshFront}
 use Rattle.mc_uca.proofs.CodeLemmas.{drop_none, drop_next}
 
 one_spells : (set : Charset) (code : ℕ) (text : List ℕ) → spell set code ≡ Some text →
@@ -68,3 +72,39 @@ front_ends set text count at most h none le =
     let codes = chars set text in
     let l = none_left count codes (sym h.behind ∙ none) in
     sym (take_all most codes (omega arith))
+
+-- One text is spelled by the same characters.
+pub same_spelled : (set : Charset) (codes a b : List ℕ) → Spells set codes a → Spells set codes b →
+    a ≡ b
+same_spelled set codes a b h k = some_same (sym h ∙ k)
+  where
+    some_same : {x y : List ℕ} → Some x ≡ Some y → x ≡ y
+    some_same e = cc
+
+-- What is known of the last place that no contraction reaches over, or of the start.
+abbrev pub IsLast : Charset → List (List ℕ) → List ℕ → List ℕ → ℕ → Type 0
+IsLast set contractions a b last =
+    (last ≤ length a) × (last ≤ length b)
+    × ((last ≡ 0) ⊎ IsFreshFront set contractions a b last)
+
+pub on_true : {P : Type 0} (fresh : Bool) → fresh ≡ true → OnTrue fresh P → P
+on_true true e p = p
+on_true false e p = absurd cc
+
+-- Two texts share what one of them has before a place where its characters end.
+pub shared_before : (set : Charset) (a b : List ℕ) (count at end : ℕ) →
+    ((codes front rest : List ℕ) → Spells set codes front →
+    chars set (front ++ rest) ≡ codes ++ chars set rest) →
+    IsFrontOf set a count at → at ≤ end → take end a ≡ take end b → SharesFront set a b at
+shared_before set a b count at end fronts walked le same =
+    let codes = take count (chars set a) in
+    let before : take at a ≡ take at b =
+    sym (take-take at end a le) ∙ ap (take at) same ∙ take-take at end b le in
+    let spelled : Spells set codes (take at b) = subst (Spells set codes) before walked.before in
+    (codes, parts a walked.before, parts b spelled, walked.before, spelled)
+  where
+    parts : (text : List ℕ) → Spells set (take count (chars set a)) (take at text) →
+        chars set text ≡ take count (chars set a) ++ chars set (drop at text)
+    parts text h =
+        ap (chars set) (sym (take-append-drop at text))
+        ∙ fronts (take count (chars set a)) (take at text) (drop at text) h

@@ -11,3 +11,4 @@ pub mod SetLaw
 pub mod InnerFacts
 pub mod FlatOrder
 pub mod Splits
+pub mod DirectFacts

@@ -6,6 +6,8 @@ pub mod UcaLaws
 pub mod Reach
 pub mod Inner
 pub mod Streams
+pub mod Direct
+pub mod FreshFronts
 pub mod Inserts
 pub mod Heads
 pub mod Fault

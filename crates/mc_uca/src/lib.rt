@@ -8,7 +8,8 @@
 //!
 //! Read `kind`, `fault` and `collation`; then `weigher`, which has the table, `reach`, `inner`,
 //! `codes` and `piece`, by which a text is cut, `pending`, `text` and `stream`, which give its
-//! elements and its weights one after the other, `flat` and `weights`, level by level; then
+//! elements and its weights one after the other, `flat` and `weights`, level by level; `direct` and
+//! `cursor`, which give the weights of one level, at once where a character has one; then
 //! `compare`, `chars`, `put`, and `code_elements`, `tails`, `heads`, `floor`, `space` and
 //! `findings`, by which a collation is made.
 #![tactic(auto)]
@@ -18,6 +19,8 @@ mod code_elements;
 mod codes;
 mod collation;
 mod compare;
+mod cursor;
+mod direct;
 mod fault;
 mod findings;
 mod flat;

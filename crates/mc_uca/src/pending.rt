@@ -1,14 +1,16 @@
+ghost use Rattle.mc_rules.specs.Elements.{elements_of};
 ghost use Rattle.mc_rules.specs.Outside.{jamo_elements};
 ghost use Rattle.mc_rules.specs.Unlisted.{elements_by};
 ghost use Rattle.mc_uca.specs.Streams.{jamo_count, jamo_left, pending_left};
 ghost use Rattle.std.specs.List.{flat_map};
 ghost use Rattle.std.specs.Option.{option_to_list};
-ghost use Rattle.std.specs.Prelude.{◌≡◌, ◌++◌, ◌∷◌, ◌<◌, ◌+◌, [], length, true, None, MatchOption};
+ghost use Rattle.std.specs.Prelude.{◌≡◌, ◌++◌, ◌∷◌, ◌≤◌, ◌<◌, ◌+◌, [], length, true, None};
+ghost use Rattle.std.specs.Prelude.{MatchOption};
 ghost use Rattle.std.specs.Bool.{OnTrue, OnFalse};
 
 use crate::stream::ElementStream;
 use mc_allkeys::{Element, Keys};
-use mc_rules::{Syllable, Unlisted, unlisted_jamo};
+use mc_rules::{Syllable, UcaFamily, Unlisted, unlisted_jamo, unlisted_of};
 
 /// The elements of a piece that are still to come: listed ones, up to two others, and those of up
 /// to two jamo.
@@ -49,6 +51,17 @@ impl<'a> Pending<'a> {
             second: None,
             vowel: None,
             trailing: None,
+        }
+    }
+
+    /// The elements of a character by itself.
+    pub(crate) fn of_char(keys: &'a Keys, family: UcaFamily, code: u32) -> Pending<'a>
+        requires { code ≤ 0x10FFFF }
+        ensures { pending_left result ≡ elements_of keys.now family (code ∷ []) }
+    {
+        match keys.single(code) {
+            Some(elements) => Pending::listed(keys, elements),
+            None => Pending::unlisted(keys, unlisted_of(keys, family, code)),
         }
     }
 

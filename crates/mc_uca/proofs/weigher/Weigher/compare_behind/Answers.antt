@@ -3,7 +3,7 @@ use Rattle.mc_charset.specs.Chars.{chars}
 use Rattle.mc_rules.specs.Elements.{elements_of}
 use Rattle.mc_uca.proofs.CodeLemmas.{rest_is}
 use Rattle.mc_uca.proofs.FlatOrder.{AreWeights, behind_front}
-use Rattle.mc_uca.proofs.Splits.{split_by, weights_by, code_points_by}
+use Rattle.mc_uca.proofs.Splits.{split_by}
 use Rattle.mc_uca.specs.Kind.{family_of, pad_of, levels_of}
 use Rattle.mc_uca.specs.UcaLaws.{unpadded}
 use Rattle.mc_uca.specs.Weighing.{set_contractions, uca_list}
@@ -20,11 +20,8 @@ returns g c =
     let E = elements_of self.keys (family_of self.kind) in
     let list = uca_list set self.kind self.keys in
     let shared = c.requires.shared in
-    let points = c.chars_law.ensures.all_code_points in
-    let each = rw c.family.ensures at c.elements_law.ensures.elements in
     let weighed : (text : List ℕ) → AreWeights (λ level. list level (chars set text)) =
-    λ text. weights_by T E (c.level_law.ensures.weights) each (chars set text)
-    (code_points_by (chars set text) (points set text)) in
+    λ text level. c.weights_law.ensures level text in
     rw (rest_is a start, rest_is b start) at c.compare_whole.ensures
     ∙ behind_front c.order_laws.ensures.front c.order_laws.ensures.levels (levels_of self.kind)
     c.args.space (pad_of self.kind) (λ level. list level (chars set a))
