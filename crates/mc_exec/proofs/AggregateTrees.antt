@@ -1,7 +1,7 @@
 -- The aggregates of an expression: those of its operands, and itself where it is one.
 use Rattle.std.proofs.Common.{◌≡◌, Bool, true, false, List, [], ◌∷◌, ◌++◌, None, Some, map, refl}
 use Rattle.std.proofs.Common.{sym, ap, ◌∙◌, subst}
-use Rattle.std.specs.List.{AllByRecursion, flat_map, list_any}
+use Rattle.std.specs.List.{AllByRecursion, flat_map}
 use Rattle.mc_eval.specs.Fit.{has_like}
 use Rattle.mc_typing.specs.AggregateTypes.{is_aggregate_node}
 use Rattle.mc_typing.specs.Parts.{node_parts}

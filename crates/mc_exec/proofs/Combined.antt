@@ -1,18 +1,16 @@
 -- What comes of values that may be kept may be kept, and is of the aggregate's type.
-use Rattle.std.proofs.Common.{◌≡◌, ℕ, Bool, true, false, not, List, [], ◌∷◌, None, Some, cond}
+use Rattle.std.proofs.Common.{◌≡◌, ℕ, Bool, true, false, List, [], ◌∷◌, Some, cond}
 use Rattle.std.proofs.Common.{subst}
-use Rattle.std.proofs.Common.{sym, refl, pos, ℤ, length}
+use Rattle.std.proofs.Common.{pos, ℤ}
 use Rattle.std.proofs.lemmas.List.Elements.{recursion_from_All}
-use Rattle.std.specs.List.{AllByRecursion, find, list_all, list_any}
-use Rattle.std.specs.Prelude.{All, IfOk, Option, Result, Ok, Err, unwrap_or, if◌then◌else◌}
+use Rattle.std.specs.List.{AllByRecursion, find, list_all}
+use Rattle.std.specs.Prelude.{All, IfOk, Result, Ok, Err, unwrap_or, if◌then◌else◌}
 use Rattle.std.specs.Ordering.{flip_args}
 use Rattle.std.specs.declared.cmp.Ordering.{Ordering}
 use Rattle.mc_eval.specs.Outcomes.{IsKept}
-use Rattle.mc_group.specs.Extremes.{stands_before}
 use Rattle.mc_group.specs.Order.{value_order}
 use Rattle.mc_group.specs.Sums.{has_64_bits, is_null, sum_of, total}
 use Rattle.mc_group.specs.declared.kind.KeyKind.{KeyKind}
-use Rattle.mc_group.specs.declared.sums.SumFault.{SumFault}
 use Rattle.mc_group.specs.declared.sums.SumFault.TheVariants.{OutOfRange as OutOf}
 use Rattle.mc_order.specs.Meaning.{Meaning}
 use Rattle.mc_typing.specs.declared.typed.AggName.{AggName}

@@ -1,8 +1,7 @@
 -- The lines that are shown by DISTINCT are those of the subjects that are picked.
 use Rattle.std.proofs.Common.{◌≡◌, ℕ, Bool, true, false, List, map, Some, refl, sym, ap, ◌∙◌}
 use Rattle.std.specs.Cmp.{IsEquivalence}
-use Rattle.std.specs.List.{filter, position_or_len, prefix_len}
-use Rattle.std.specs.Ordering.{on}
+use Rattle.std.specs.List.{position_or_len}
 use Rattle.std.specs.Prelude.{option_map, not, cond, [], ◌∷◌, ◌+◌}
 use Rattle.mc_group.specs.Groups.{firsts, group_numbers, same_row}
 use Rattle.mc_order.specs.Meaning.{Meaning}

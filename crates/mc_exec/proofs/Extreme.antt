@@ -1,13 +1,12 @@
 -- The extreme of values is the one at the place that is found.
 use Rattle.std.proofs.Common.{◌≡◌, ℕ, zero, suc, ◌<◌, Bool, true, false, not, List, [], ◌∷◌}
-use Rattle.std.proofs.Common.{None, Some, refl, sym, ap, ◌∙◌, cond, get_or, length, arith, inl, inr}
-use Rattle.std.proofs.lemmas.Bool.{or_parts}
+use Rattle.std.proofs.Common.{Some, refl, sym, ap, ◌∙◌, cond, get_or, length, arith}
 use Rattle.std.proofs.lemmas.List.{get_or_default}
 use Rattle.std.proofs.lemmas.List.Elements.{recursion_from_All}
 use Rattle.std.specs.List.{AllByRecursion, IsFirstBest, find, list_any}
-use Rattle.std.specs.Prelude.{All, Option, unwrap_or, ◌||◌}
+use Rattle.std.specs.Prelude.{All, unwrap_or, ◌||◌}
 use Rattle.std.specs.declared.cmp.Ordering.{Ordering}
-use Rattle.mc_group.specs.Extremes.{IsFirstPlace, stands_before}
+use Rattle.mc_group.specs.Extremes.{stands_before}
 use Rattle.mc_values.specs.declared.value.Value.{Value}
 use Rattle.mc_values.specs.declared.value.Value.TheVariants as value
 use Rattle.mc_exec.specs.Aggregates.{extreme}

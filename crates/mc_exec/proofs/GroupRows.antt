@@ -1,6 +1,6 @@
 -- What holds of each row holds of each row of a group.
-use Rattle.std.proofs.Common.{◌≡◌, ℕ, zero, suc, ◌+◌, Bool, true, false, List, [], ◌∷◌, Some, None}
-use Rattle.std.proofs.Common.{map, refl, sym, subst, length}
+use Rattle.std.proofs.Common.{◌≡◌, ℕ, zero, suc, ◌+◌, true, false, List, [], ◌∷◌, Some, None}
+use Rattle.std.proofs.Common.{map, subst, length}
 use Rattle.std.proofs.lemmas.List.Elements.{All-from_recursion, recursion_from_All}
 use Rattle.std.specs.List.{AllByRecursion, range_with_len}
 use Rattle.std.specs.Prelude.{All, Option, nat_eq, option_map, if◌then◌else◌}

@@ -1,11 +1,11 @@
 -- The values of keys are of their kinds, and what is kept can be read.
-use Rattle.std.proofs.Common.{◌≡◌, ℕ, ◌<◌, Bor, Bool, true, false, List, [], ◌∷◌, None, Some, refl}
+use Rattle.std.proofs.Common.{◌≡◌, ℕ, ◌<◌, Bor, Bool, true, false, List, [], ◌∷◌, None, Some}
 use Rattle.std.proofs.Common.{sym, subst}
 use Rattle.std.proofs.Common.{◌∙◌, cond, map}
 use Rattle.std.proofs.lemmas.List.Elements.{All-from_recursion, All-map, All-weaker}
 use Rattle.std.proofs.lemmas.List.Elements.{recursion_from_All}
 use Rattle.std.specs.List.{AllByRecursion, AllZip, list_any}
-use Rattle.std.specs.Prelude.{All, Option, filter, option_and_then, option_map}
+use Rattle.std.specs.Prelude.{All, Option, filter, option_map}
 use Rattle.std.specs.Prelude.{if◌then◌else◌}
 use Rattle.mc_catalog.specs.Fits.{FitsCatalog}
 use Rattle.mc_catalog.specs.declared.catalog.Catalog.{Catalog}

@@ -15,9 +15,13 @@ pub mod Lengths
 pub mod Readable
 pub mod Rows
 pub mod Sorted
+pub mod Unsorted
 pub mod Placed
 pub mod Limits
 pub mod ShownRows
 pub mod KeyRows
 pub mod SoundParts
 pub mod Places
+pub mod PlanRows
+pub mod PlanTexts
+pub mod HeldIndex

@@ -1,6 +1,6 @@
 -- LIKE stands in an expression where it stands in an operand.
-use Rattle.std.proofs.Common.{◌≡◌, Bool, false, ◌||◌, All, List, [], ◌∷◌, None, Some, map, refl}
-use Rattle.std.proofs.Common.{sym, ap, ◌∙◌}
+use Rattle.std.proofs.Common.{◌≡◌, Bool, false, ◌||◌, All, List, [], ◌∷◌, None, Some, map}
+use Rattle.std.proofs.Common.{sym, ◌∙◌}
 use Rattle.std.proofs.lemmas.Bool.{or_parts}
 use Rattle.std.proofs.lemmas.List.Elements.{All-from_recursion}
 use Rattle.std.specs.List.{AllByRecursion, list_any}

@@ -1,8 +1,9 @@
 -- The rows of tables can be read: their values may be kept, and are of their columns' types.
-use Rattle.std.proofs.Common.{◌≡◌, ℕ, zero, suc, ◌≤◌, List, [], ◌∷◌, Some, length, map, refl}
-use Rattle.std.proofs.Common.{sym, ap, subst}
+use Rattle.std.proofs.Common.{◌≡◌, ℕ, zero, suc, ◌≤◌, ◌<◌, List, [], ◌∷◌, Some, length, map, refl}
+use Rattle.std.proofs.Common.{sym, ap, get_or, subst}
 use Rattle.std.proofs.Common.{arith}
 use Rattle.std.proofs.lemmas.List.Elements.{All-from_recursion, recursion_from_All}
+use Rattle.std.proofs.lemmas.Option.{slice_get-get_or}
 use Rattle.std.specs.List.{AllByRecursion, AllZip}
 use Rattle.std.specs.Prelude.{All, Option, None, option_map, slice_get, unwrap_or}
 use Rattle.mc_catalog.specs.Lawful.{IsLawful, IsLawfulTable, IsLawfulType}
@@ -15,6 +16,8 @@ use Rattle.mc_catalog.specs.declared.catalog.TableDecl.{TableDecl}
 use Rattle.mc_charset.specs.Chars.{IsWellFormed, Spells, chars}
 use Rattle.mc_charset.specs.declared.charset.Charset.{Charset}
 use Rattle.mc_eval.specs.Outcomes.{IsKept}
+use Rattle.mc_gather.specs.Indexed.{rows_in}
+use Rattle.mc_gather.specs.Tables.{AreTablesOf, AreRowsOf}
 use Rattle.mc_rows.specs.Fields.{IsOfType as IsOfColumn}
 use Rattle.mc_rows.specs.Records.{IsOfColumns}
 use Rattle.mc_typing.specs.Columns.{column_ty}
@@ -22,7 +25,6 @@ use Rattle.mc_typing.specs.OfType.{IsOfType, IsRowOf}
 use Rattle.mc_values.specs.declared.value.Value.{Value}
 use Rattle.mc_values.specs.declared.value.Value.TheVariants as value
 use Rattle.mc_exec.specs.Steps.{IsReadable}
-use Rattle.mc_exec.specs.Stored.{AreTablesOf, AreRowsOf}
 use Rattle.mc_exec.proofs.Lengths.{spelled_length}
 
 zip_length : {A B : Type 0} (R : A → B → Type 0) (xs : List A) (ys : List B) → AllZip R xs ys
@@ -137,6 +139,18 @@ readable decodes c l tables h place rows e =
     let lawful = each_get (IsLawfulTable (length c.collations)) c.tables
     (recursion_from_All (IsLawfulTable (length c.collations)) c.tables l.so_far.tables) place at.0 at.1.0 in
     λ k d w. readable_row decodes c place at.0 _ at.1.0 lawful (at.1.1 k d w)
+
+-- So can those of the table at a place.
+pub readable_in : Decodes → (c : Catalog) → IsLawful c → (tables : List (List (List Value)))
+    → AreTablesOf c tables → (place : ℕ) → place < length c.tables
+    → All (IsReadable c (Some place)) (rows_in tables place)
+readable_in decodes c l tables h place w =
+    let many = as_many c tables h in
+    let rows = get_or tables place [] in
+    let at : slice_get tables place ≡ Some rows =
+    slice_get-get_or tables place [] (omega (arith, many, w)) in
+    subst (λ (o : Option (List (List Value))). All (IsReadable c (Some place)) (unwrap_or o []))
+    (sym at) (readable decodes c l tables h place rows at)
 
 pub readable_empty : (c : Catalog) → IsReadable c None []
 readable_empty c = record { kept = λ k d w. absurd (omega arith); typed = λ place type e. absurd (cc) }

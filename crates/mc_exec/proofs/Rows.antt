@@ -1,16 +1,15 @@
 -- Rows that are lent, at a place and as the source of a statement.
-use Rattle.std.proofs.Common.{◌≡◌, ℕ, ◌<◌, Bor, List, [], ◌∷◌, None, Some, refl, sym, ap, ◌∙◌}
+use Rattle.std.proofs.Common.{◌≡◌, ℕ, ◌<◌, List, [], ◌∷◌, None, Some, refl, sym, ap, ◌∙◌}
 use Rattle.std.proofs.Common.{subst}
 use Rattle.std.proofs.Common.{arith, get_or, length, map}
 use Rattle.std.proofs.lemmas.List.{get_or-map, get_or_default, length-map}
 use Rattle.std.specs.Prelude.{All, Option, option_and_then, slice_get, unwrap_or}
 use Rattle.mc_eval.specs.declared.truth.Truth.{Truth}
+use Rattle.mc_gather.specs.Indexed.{rows_in}
 use Rattle.mc_values.specs.declared.value.Value.{Value}
 use Rattle.mc_exec.specs.Given.{Subject, alone}
 use Rattle.mc_exec.specs.Kept.{kept}
-use Rattle.mc_exec.specs.Source.{source}
-use Rattle.mc_exec.specs.Steps.{IsReadable, kept_with, with_kept}
-use Rattle.mc_exec.specs.Stored.{Stored}
+use Rattle.mc_exec.specs.Steps.{kept_with, with_kept}
 use Rattle.mc_exec.proofs.Scans.{all_kept}
 
 -- What holds of each member holds of one at a place.
@@ -22,18 +21,9 @@ pub place_subject : (subjects : List Subject) (p : ℕ) (s : Subject) → p < le
     → s ≡ get_or subjects p s → get_or subjects p (alone []) ≡ s
 place_subject subjects p s h e = get_or_default subjects p (alone []) s h ∙ sym e
 
-pub source_is : (t : Stored) (table : Option ℕ) (place : ℕ) (rows : List (List Value))
-    → table ≡ Some place → slice_get t.rows place ≡ Some rows → source t table ≡ rows
-source_is t table place rows e h = ap (source t) e ∙ ap (λ o. unwrap_or o []) h
-
-pub readable_source : (t : Stored) (table : Option ℕ) (place : ℕ) (rows : List (List Value))
-    → table ≡ Some place → slice_get t.rows place ≡ Some rows
-    → All (IsReadable t.catalog (Some place)) rows
-    → All (IsReadable t.catalog table) (source t table)
-readable_source t table place rows e h all =
-    subst (λ (o : Option ℕ). All (IsReadable t.catalog o) (source t o)) (sym e)
-    (subst (λ (l : List (List Value)). All (IsReadable t.catalog (Some place)) l)
-    (sym (ap (λ o. unwrap_or o []) h)) all)
+pub rows_are : (tables : List (List (List Value))) (place : ℕ) (rows : List (List Value))
+    → slice_get tables place ≡ Some rows → rows_in tables place ≡ rows
+rows_are tables place rows h = ap (λ o. unwrap_or o []) h
 
 ended : {R : Type 0} (accepted : R → Truth) (o : Option (List R))
     → option_and_then (λ more. with_kept accepted more []) o ≡ o

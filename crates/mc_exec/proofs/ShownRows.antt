@@ -1,5 +1,5 @@
 -- The rows of a sorted order, as they are shown.
-use Rattle.std.proofs.Common.{◌≡◌, ℕ, zero, suc, ◌+◌, ◌<◌, Bor, List, [], ◌∷◌, None, Some}
+use Rattle.std.proofs.Common.{◌≡◌, ℕ, zero, suc, ◌+◌, ◌<◌, List, [], ◌∷◌, None, Some}
 use Rattle.std.proofs.Common.{refl, sym, ap}
 use Rattle.std.proofs.Common.{◌∙◌, inl, inr, get_or, length, map, arith, subst}
 use Rattle.std.proofs.lemmas.List.Elements.{All-from_recursion, recursion_from_All}
@@ -7,13 +7,12 @@ use Rattle.std.proofs.lemmas.List.Sorted.{All-permutation, IsPermutation-sym}
 use Rattle.std.specs.List.{AllByRecursion, range_with_len}
 use Rattle.std.specs.List.Sorted.{IsPermutation}
 use Rattle.std.specs.Prelude.{All, Option, option_and_then, option_map}
-use Rattle.mc_exec.proofs.Filled.{all_filled}
 use Rattle.mc_exec.proofs.Limits.{all_shown}
 use Rattle.mc_exec.proofs.Placed.{placed}
 use Rattle.mc_exec.proofs.Sorted.{In, in_permutation}
 use Rattle.mc_exec.specs.FullScan.{limited}
 use Rattle.mc_exec.specs.Given.{all_of}
-use Rattle.mc_exec.specs.Steps.{with_all, with_shown}
+use Rattle.mc_exec.specs.Steps.{with_shown}
 
 range_in : (a n p d : ℕ) → p ≡ a + d → d < n → In p (range_with_len a n)
 range_in a zero p d e h = absurd (omega arith)

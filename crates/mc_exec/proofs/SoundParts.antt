@@ -8,21 +8,20 @@ use Rattle.std.proofs.lemmas.List.Elements.{All-from_recursion, All-weaker, recu
 use Rattle.std.specs.Ordering.{flip_args}
 use Rattle.mc_group.specs.Order.{value_order}
 use Rattle.std.specs.List.{AllByRecursion, AllZip, flat_map, list_any, zip}
-use Rattle.std.specs.Prelude.{All, IsSomeAnd, Option, option_and_then, option_map, slice_get}
+use Rattle.std.specs.Prelude.{All, Option, option_and_then, option_map}
 use Rattle.mc_catalog.specs.Fits.{FitsCatalog}
 use Rattle.mc_catalog.specs.declared.catalog.Catalog.{Catalog}
 use Rattle.mc_catalog.specs.declared.catalog.ColumnDecl.{ColumnDecl}
 use Rattle.mc_charset.specs.declared.charset.Charset.{Charset}
-use Rattle.mc_eval.specs.Fit.{fits, has_like}
+use Rattle.mc_eval.specs.Fit.{has_like}
 use Rattle.mc_eval.specs.Node.{place}
 use Rattle.mc_eval.specs.Outcomes.{IsKept}
 use Rattle.mc_eval.specs.Typed.{HasType}
 use Rattle.mc_eval.specs.Value.{value}
-use Rattle.mc_group.specs.Kinds.{IsInBook}
 use Rattle.mc_order.specs.Meaning.{Meaning}
 use Rattle.mc_typing.specs.AggregateTypes.{aggregate_types, is_aggregate_node, types_with}
 use Rattle.mc_typing.specs.Columns.{column_ty}
-use Rattle.mc_typing.specs.OfType.{IsNumeric, IsOfType, IsRowOf}
+use Rattle.mc_typing.specs.OfType.{IsOfType, IsRowOf}
 use Rattle.mc_typing.specs.Parts.{node_parts}
 use Rattle.mc_typing.specs.Sound.{IsSound, IsSoundNode}
 use Rattle.mc_typing.specs.SoundStatements.{IsSoundStatement, columns_at, row_types}
@@ -48,9 +47,9 @@ use Rattle.mc_exec.specs.Steps.{GoesOn, IsFit, IsReadable}
 use Rattle.mc_exec.specs.Work.{uses_like}
 use Rattle.mc_exec.proofs.AggregateTrees.{aggregates_are, aggregates_like, each_aggregate}
 use Rattle.mc_exec.proofs.AggregateTrees.{each_append}
-use Rattle.mc_exec.proofs.AggregateTrees.{each_joined, tree_ind}
+use Rattle.mc_exec.proofs.AggregateTrees.{tree_ind}
 use Rattle.mc_exec.proofs.Combined.{extreme_is, null_kept, sum_is}
-use Rattle.mc_exec.proofs.KeyRows.{AreTyped, GiveTypes, each_given, give_kinds, given_type, in_book}
+use Rattle.mc_exec.proofs.KeyRows.{AreTyped, GiveTypes, give_kinds, given_type, in_book}
 use Rattle.mc_exec.proofs.KeyRows.{keys_give_kinds, kinds_given, kinds_in_book, value_kind}
 use Rattle.mc_exec.proofs.KeyRows.{value_kinds_in_book}
 use Rattle.mc_exec.proofs.LineLists.{first_and_others}

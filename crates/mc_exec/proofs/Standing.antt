@@ -7,7 +7,7 @@ use Rattle.std.proofs.lemmas.List.{drop_all, length-take-le, take_more}
 use Rattle.std.specs.List.{list_any, zip}
 use Rattle.std.specs.Option.{is_some}
 use Rattle.std.proofs.lemmas.Bool.Decides.{nat_tests}
-use Rattle.std.specs.Prelude.{◌==◌, Option, Result, Ok, Err, option_and_then, option_map}
+use Rattle.std.specs.Prelude.{◌==◌, Option, Result, option_and_then, option_map}
 use Rattle.mc_values.specs.declared.value.Value.{Value}
 use Rattle.mc_exec.specs.Given.{Subject, all_of}
 use Rattle.mc_exec.specs.Shown.{Line, or_one, standing}

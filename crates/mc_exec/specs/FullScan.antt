@@ -16,7 +16,6 @@ use Rattle.mc_exec.specs.Kept.{kept}
 use Rattle.mc_exec.specs.Ordered.{ordered}
 use Rattle.mc_exec.specs.Shown.{Line, line_in, subjects_of}
 use Rattle.mc_exec.specs.Source.{source}
-use Rattle.mc_exec.specs.Stored.{Stored}
 
 -- The rows that the conjuncts of WHERE accept.
 abbrev pub kept_rows : (ℕ → Meaning) → Typed → List (List Value) → Option (List (List Value))
@@ -52,7 +51,7 @@ full_scan c meaning q rows = option_and_then
     (λ kept. option_and_then (finish meaning q) (subjects_of c meaning q q.grouped kept))
     (kept_rows meaning q rows)
 
--- What answers it: its headers, and the rows that it shows.
-abbrev pub answer : Stored → (ℕ → Meaning) → Typed → Option Answer
-answer t meaning q = option_map (λ rows. record { header = q.header; rows = rows })
-    (full_scan t.catalog meaning q (source t q.table))
+-- What answers a statement over the rows of all tables: its headers, and the rows that it shows.
+abbrev pub answer : Catalog → (ℕ → Meaning) → List (List (List Value)) → Typed → Option Answer
+answer c meaning rows q = option_map (λ shown. record { header = q.header; rows = shown })
+    (full_scan c meaning q (source rows q.table))

@@ -7,6 +7,8 @@ pub mod Aggregates
 pub mod Grouped
 pub mod Shown
 pub mod FullScan
+pub mod Planned
+pub mod Explained
 pub mod Work
 pub mod Told
 pub mod Steps

@@ -1,5 +1,5 @@
 -- What the private parts ask of statements and of what is evaluated; no public clause cites it.
-use Rattle.std.specs.Prelude.{◌≡◌, ℕ, ⊤, List, All, Option, Some, None}
+use Rattle.std.specs.Prelude.{◌≡◌, ℕ, ⊤, List, All, Some}
 use Rattle.mc_eval.specs.Outcomes.{IsKept}
 use Rattle.mc_group.specs.Kinds.{IsInBook, IsKeyRow, IsOfKind}
 use Rattle.mc_order.specs.Meaning.{Meaning}

@@ -1,6 +1,6 @@
 -- What stands for a group: its first row, with the aggregates over the group. MySQL 8.0 manual,
 -- 12.20.3.
-use Rattle.std.specs.Prelude.{◌≡◌, ℕ, Bool, true, false, List, [], ◌∷◌, map, slice_index_or}
+use Rattle.std.specs.Prelude.{ℕ, Bool, true, false, List, [], ◌∷◌, map, slice_index_or}
 use Rattle.std.specs.Prelude.{Option, Some, option_and_then, option_map}
 use Rattle.mc_catalog.specs.declared.catalog.Catalog.{Catalog}
 use Rattle.mc_order.specs.Meaning.{Meaning}

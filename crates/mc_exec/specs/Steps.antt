@@ -1,14 +1,20 @@
 -- What the private parts do, a member at a time; no public clause cites it.
-use Rattle.std.specs.Prelude.{◌≡◌, ℕ, ◌+◌, ◌≤◌, Bool, true, false, IsTrue, nat_le, nat_lt, ◌&&◌}
-use Rattle.std.specs.Prelude.{◌-◌, All, nat_eq}
+use Rattle.std.specs.Prelude.{◌≡◌, ℕ, ◌+◌, ◌≤◌, ◌<◌, Bool, true, false, IsTrue, nat_le, nat_lt}
+use Rattle.std.specs.Prelude.{◌-◌, ◌&&◌, ⊤, All, IsSomeAnd, length, nat_eq, slice_get}
 use Rattle.std.specs.Prelude.{List, [], ◌∷◌, ◌++◌, Option, Some, None, if◌then◌else◌}
 use Rattle.std.specs.Prelude.{option_and_then, option_map}
 use Rattle.mc_catalog.specs.declared.catalog.Catalog.{Catalog}
+use Rattle.mc_catalog.specs.declared.catalog.IndexDecl.{IndexDecl}
 use Rattle.mc_eval.specs.Fit.{fits}
 use Rattle.mc_eval.specs.Outcomes.{IsKept}
 use Rattle.mc_eval.specs.declared.truth.Truth.{Truth}
+use Rattle.mc_plan.specs.Plans.{index_collation, indexes_at}
+use Rattle.mc_plan.specs.declared.plan.Plan.{Plan}
+use Rattle.mc_plan.specs.declared.plan.Plan.TheVariants.{Scan, ByIndex}
+use Rattle.mc_range.specs.Bounds.{HasBounds}
+use Rattle.mc_range.specs.declared.interval.Interval.{Interval}
 use Rattle.mc_typing.specs.OfType.{IsRowOf}
-use Rattle.mc_typing.specs.SoundStatements.{row_types}
+use Rattle.mc_typing.specs.SoundStatements.{columns_at, row_types}
 use Rattle.mc_typing.specs.declared.typed.TypedExpr.{TypedExpr}
 use Rattle.mc_values.specs.declared.value.Value.{Value}
 use Rattle.mc_exec.specs.Kept.{is_faulty, is_yes}
@@ -17,6 +23,29 @@ use Rattle.mc_exec.specs.Kept.{is_faulty, is_yes}
 pub record GoesOn (like : Bool) (old new : ℕ) : Type 0 where
   pub still : like ≡ false → new ≡ old
   pub later : old ≤ new
+
+-- The counter rose by so many at most where there is no LIKE, and was never lowered.
+pub record GoesUpTo (like : Bool) (most old new : ℕ) : Type 0 where
+  pub within : like ≡ false → new ≤ old + most
+  pub later : old ≤ new
+
+-- An index of the table serves intervals: the catalog declares it, over a column with one of so
+-- many collations, and bounds can be made of the intervals' ends.
+pub record Serves (count : ℕ) (c : Catalog) (table : Option ℕ) (index : ℕ)
+    (intervals : List Interval) : Type 0 where
+  pub declared : IsSomeAnd (slice_get (indexes_at c table) index)
+      (λ it. IsSomeAnd (index_collation (columns_at c table) it) (λ coll. coll.0 < count))
+  pub bounds : All HasBounds intervals
+
+-- The plan's index, if it has one, serves its intervals.
+abbrev pub IsServed : ℕ → Catalog → Option ℕ → Plan → Type 0
+IsServed count c table Scan = ⊤
+IsServed count c table (ByIndex index conjunct intervals) = Serves count c table index intervals
+
+-- The plan's index, if it has one, is one of these.
+abbrev pub IsAmong : List IndexDecl → Plan → Type 0
+IsAmong indexes Scan = ⊤
+IsAmong indexes (ByIndex index conjunct intervals) = index < length indexes
 
 -- A row behind others, if it is accepted.
 abbrev pub kept_with : {R : Type 0} → Truth → List R → R → Option (List R)

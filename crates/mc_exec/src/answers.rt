@@ -5,10 +5,12 @@ ghost use Rattle.mc_eval.specs.Outcomes.{IsKept};
 ghost use Rattle.mc_exec.specs.FullScan.{answer, finish, full_scan};
 ghost use Rattle.mc_exec.specs.Given.{alone};
 ghost use Rattle.mc_exec.specs.Shown.{null_row, subjects_of};
-ghost use Rattle.mc_exec.specs.Source.{row_count, source};
-ghost use Rattle.mc_exec.specs.Steps.{GoesOn, IsReadable};
+ghost use Rattle.mc_exec.specs.Planned.{plan_entries, plan_seeks};
+ghost use Rattle.mc_exec.specs.Source.{source};
+ghost use Rattle.mc_exec.specs.Steps.{GoesOn, GoesUpTo, IsReadable};
 ghost use Rattle.mc_exec.specs.Told.{Tells, TellsOf};
 ghost use Rattle.mc_exec.specs.Work.{uses_like};
+ghost use Rattle.mc_gather.specs.Indexed.{FitBook};
 ghost use Rattle.mc_typing.specs.SoundStatements.{IsSoundStatement};
 ghost use Rattle.mc_values.specs.Values.{IsTextOfSet};
 ghost use Rattle.mc_values.specs.declared.value.Value.TheVariants as value;
@@ -163,15 +165,18 @@ fn put_answer<B: Book, W, L>(
     requires fits { FitsCatalog t.now.catalog (B.count book.now)
         (λ id. (B.meaning book.now id).charset) }
     requires sound { IsSoundStatement t.now.catalog q.now }
+    requires book { FitBook t.now.catalog (B.meaning book.now) t.now.rows t.now.indexes }
     requires empty { empty.now ≡ [] }
     requires nulls { nulls.now ≡ null_row t.now.catalog q.now.table }
     requires none { shown.old ≡ [] }
     ensures told { TellsOf (full_scan t.now.catalog (B.meaning book.now) q.now
-        (source t.now q.now.table)) shown.new result }
+        (source t.now.rows q.now.table)) shown.new result }
     ensures kept { All (All IsKept) shown.new }
     ensures fetched { steps.old ≤ steps.new }
-    ensures steps { steps.new ≤ steps.old + row_count t.now q.now.table }
-    ensures work { GoesOn (uses_like q.now) work.old work.new }
+    ensures steps { steps.new
+        ≤ steps.old + plan_entries t.now.catalog (B.meaning book.now) t.now.rows q.now }
+    ensures work { GoesUpTo (uses_like q.now)
+        (plan_seeks t.now.catalog (B.meaning book.now) t.now.rows q.now) work.old work.new }
 {
     evaluation_law();
     let mut kept = List::new(alloc);
@@ -207,13 +212,16 @@ fn put_rows<B: Book, W, L>(
     requires fits { FitsCatalog t.now.catalog (B.count book.now)
         (λ id. (B.meaning book.now id).charset) }
     requires sound { IsSoundStatement t.now.catalog q.now }
+    requires book { FitBook t.now.catalog (B.meaning book.now) t.now.rows t.now.indexes }
     requires none { shown.old ≡ [] }
     ensures told { TellsOf (full_scan t.now.catalog (B.meaning book.now) q.now
-        (source t.now q.now.table)) shown.new result }
+        (source t.now.rows q.now.table)) shown.new result }
     ensures kept { All (All IsKept) shown.new }
     ensures fetched { steps.old ≤ steps.new }
-    ensures steps { steps.new ≤ steps.old + row_count t.now q.now.table }
-    ensures work { GoesOn (uses_like q.now) work.old work.new }
+    ensures steps { steps.new
+        ≤ steps.old + plan_entries t.now.catalog (B.meaning book.now) t.now.rows q.now }
+    ensures work { GoesUpTo (uses_like q.now)
+        (plan_seeks t.now.catalog (B.meaning book.now) t.now.rows q.now) work.old work.new }
 {
     let empty = Row::new(alloc);
     let mut nulls = Row::new(alloc);
@@ -225,9 +233,9 @@ fn put_rows<B: Book, W, L>(
 
 /// The answer to a typed statement: its headers, and the rows of a full scan of its table.
 /// `OutOfRange` where a number that a condition, a group, an aggregate, an item or a key of a row
-/// needs is outside 64 bits, also where the row isn't shown; `NoMemory` where memory runs out. Each
-/// row of the table is fetched once at most, and only LIKE adds to `work`. MySQL 8.0 manual,
-/// 13.2.10.
+/// needs is outside 64 bits, also where the row isn't shown; `NoMemory` where memory runs out. Only
+/// the rows that the statement's plan reads are fetched, each once at most; only the seeks of the
+/// plan and LIKE add to `work`. MySQL 8.0 manual, 8.2.1.2 and 13.2.10.
 pub fn select<B: Book, W, L>(
     alloc: Global,
     q: &Typed,
@@ -240,11 +248,15 @@ pub fn select<B: Book, W, L>(
     requires fits { FitsCatalog t.now.catalog (B.count book.now)
         (λ id. (B.meaning book.now id).charset) }
     requires sound { IsSoundStatement t.now.catalog q.now }
-    ensures told { Tells (answer t.now (B.meaning book.now) q.now) result }
+    requires book { FitBook t.now.catalog (B.meaning book.now) t.now.rows t.now.indexes }
+    ensures told { Tells
+        (answer t.now.catalog (B.meaning book.now) t.now.rows q.now) result }
     ensures texts { IfOk result (λ answer. All (All IsTextOfSet) answer.rows) }
     ensures fetched { steps.old ≤ steps.new }
-    ensures steps { steps.new ≤ steps.old + row_count t.now q.now.table }
-    ensures still { uses_like q.now ≡ false → work.new ≡ work.old }
+    ensures steps { steps.new
+        ≤ steps.old + plan_entries t.now.catalog (B.meaning book.now) t.now.rows q.now }
+    ensures work { uses_like q.now ≡ false → work.new
+        ≤ work.old + plan_seeks t.now.catalog (B.meaning book.now) t.now.rows q.now }
     ensures later { work.old ≤ work.new }
 {
     let mut rows = List::new(alloc);

@@ -71,8 +71,8 @@ fn put_directions(orders: &[TypedOrder], directions: &mut List<bool>) -> Result<
     Ok(())
 }
 
-/// The places of rows in the order of their keys.
-pub(crate) fn ordered_places<B: Book>(
+/// The places of rows in the order of their keys, sorted.
+fn sorted_places<B: Book>(
     alloc: Global,
     orders: &[TypedOrder],
     keys: &List<Row>,
@@ -91,4 +91,52 @@ pub(crate) fn ordered_places<B: Book>(
     let mut directions = List::new(alloc);
     put_directions(orders, &mut directions)?;
     order_rows(alloc, keys, &kinds, &directions, book)
+}
+
+/// Appends so many places to a list without any.
+fn put_places(count: u32, places: &mut List<u32>) -> Result<(), NoMemory>
+    requires { places.old ≡ [] }
+    ensures { OnOk result (places.new ≡ range_with_len 0 count) }
+{
+    for place in 0..count {
+        places.push(place)?;
+    }
+    Ok(())
+}
+
+/// The places of rows that nothing tells apart.
+fn every_place(alloc: Global, count: usize) -> Result<List<u32>, NoMemory>
+    ensures { IfOk result (λ places. places ≡ range_with_len 0 count) }
+{
+    match u32::try_from(count) {
+        Ok(count) => {
+            let mut places = List::new(alloc);
+            put_places(count, &mut places)?;
+            Ok(places)
+        }
+        Err(_) => Err(NoMemory),
+    }
+}
+
+/// The places of rows in the order of their keys. Without keys they stay as they are, and nothing
+/// is sorted.
+pub(crate) fn ordered_places<B: Book>(
+    alloc: Global,
+    orders: &[TypedOrder],
+    keys: &List<Row>,
+    book: &B,
+) -> Result<List<u32>, NoMemory>
+    requires in_book { All (IsInBook (B.count book.now)) (kinds_of orders.now) }
+    requires key_rows { All (IsKeyRow (B.meaning book.now) (kinds_of orders.now)) keys.now }
+    ensures are { IfOk result (λ places. places ≡ places_in_order
+        (row_order (B.meaning book.now) (kinds_of orders.now) (directions_of orders.now))
+        keys.now) }
+    ensures all { IfOk result (IsPermutation (range_with_len 0 (length keys.now))) }
+{
+    place_law();
+    if orders.is_empty() {
+        every_place(alloc, keys.len())
+    } else {
+        sorted_places(alloc, orders, keys, book)
+    }
 }

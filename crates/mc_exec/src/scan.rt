@@ -1,12 +1,27 @@
+ghost use Rattle.mc_catalog.specs.Fits.{FitsCatalog};
 ghost use Rattle.mc_catalog.specs.Lawful.{IsLawful};
 ghost use Rattle.mc_eval.specs.Acceptance.{acceptance};
 ghost use Rattle.mc_eval.specs.Fit.{has_like};
 ghost use Rattle.mc_eval.specs.Node.{place};
 ghost use Rattle.mc_eval.specs.Outcomes.{IsKept};
 ghost use Rattle.mc_exec.specs.FullScan.{kept_rows};
-ghost use Rattle.mc_exec.specs.Source.{row_count, source};
-ghost use Rattle.mc_exec.specs.Steps.{GoesOn, IsFit, IsReadable, kept_with, with_kept};
+ghost use Rattle.mc_exec.specs.Planned.{plan_entries, plan_seeks};
+ghost use Rattle.mc_exec.specs.Source.{source};
+ghost use Rattle.mc_exec.specs.Steps.{
+  GoesOn,
+  GoesUpTo,
+  IsFit,
+  IsReadable,
+  IsServed,
+  kept_with,
+  with_kept,
+};
 ghost use Rattle.mc_exec.specs.Told.{TellsOf};
+ghost use Rattle.mc_gather.specs.IndexLaws.{rows_of};
+ghost use Rattle.mc_gather.specs.Indexed.{FitBook, rows_in};
+ghost use Rattle.mc_gather.specs.PlanLaws.{seeks};
+ghost use Rattle.mc_plan.specs.Entries.{entries, is_entry};
+ghost use Rattle.mc_typing.specs.SoundStatements.{IsSoundStatement};
 ghost use Rattle.std.specs.List.{list_any};
 ghost use Rattle.std.specs.Prelude.{
   ◌≡◌,
@@ -15,19 +30,20 @@ ghost use Rattle.std.specs.Prelude.{
   ◌<◌,
   [],
   All,
-  IfSome,
   Some,
+  filter,
   length,
   map,
-  slice_get,
 };
 
 use crate::fault::ExecFault;
+use crate::planned::plan_rows;
 use crate::tables::Tables;
 use mc_base::{List, Steps};
 use mc_charset::chars_law;
 use mc_eval::accepts;
 use mc_order::Book;
+use mc_plan::{Plan, choose};
 use mc_rows::Table;
 use mc_typing::{Typed, TypedExpr};
 use mc_values::Row;
@@ -59,17 +75,6 @@ fn keep_row<'a, B: Book, W>(
     }
 }
 
-/// The row of this number, which is fetched once.
-fn fetch_row<'a, L>(table: &'a Table<L>, i: u32, steps: &mut Steps<L>) -> &'a Row
-    requires { i < length table.now }
-    ensures row { slice_get table.now i ≡ Some result.now }
-    ensures fetched { steps.old ≤ steps.new }
-    ensures steps { steps.new ≤ steps.old + 1 }
-{
-    let _before = steps.count();
-    table.fetch(i, steps)
-}
-
 /// Appends the rows of a table that the conjuncts accept. Each row is fetched once.
 fn keep_rows<'a, B: Book, W, L>(
     alloc: Global,
@@ -90,10 +95,41 @@ fn keep_rows<'a, B: Book, W, L>(
     ensures steps { steps.new ≤ steps.old + length table.now }
 {
     for i in 0..table.len() {
+        match keep_row(alloc, conjuncts, table.fetch(i, steps), book, work, kept) {
+            Ok(()) => {}
+            Err(fault) => return Err(fault),
+        }
+    }
+    Ok(())
+}
+
+/// Appends the rows of these numbers that the conjuncts accept. Each is fetched once.
+fn keep_numbered<'a, B: Book, W, L>(
+    alloc: Global,
+    conjuncts: &List<TypedExpr>,
+    table: &'a Table<L>,
+    numbers: &[u32],
+    book: &B,
+    work: &mut Steps<W>,
+    steps: &mut Steps<L>,
+    kept: &mut List<&'a Row>,
+) -> Result<(), ExecFault>
+    requires fit { All (IsFit (B.count book.now)) conjuncts.now }
+    requires rows { All (All IsKept) table.now }
+    requires numbers { All (λ number. number < length table.now) numbers.now }
+    ensures told { TellsOf
+        (with_kept (λ row. acceptance (place row [] (B.meaning book.now)) conjuncts.now)
+        (map (λ r. r.now) kept.old) (rows_of table.now numbers.now))
+        (map (λ r. r.now) kept.new) result }
+    ensures work { GoesOn (list_any has_like conjuncts.now) work.old work.new }
+    ensures fetched { steps.old ≤ steps.new }
+    ensures steps { steps.new ≤ steps.old + length numbers.now }
+{
+    for number in numbers {
         match keep_row(
             alloc,
             conjuncts,
-            fetch_row(table, i, steps),
+            table.fetch(*number, steps),
             book,
             work,
             kept,
@@ -105,8 +141,62 @@ fn keep_rows<'a, B: Book, W, L>(
     Ok(())
 }
 
+/// Appends the rows that a plan reads and the conjuncts accept. Each that it reads is fetched once.
+fn keep_planned<'a, B: Book, W, L>(
+    alloc: Global,
+    conjuncts: &List<TypedExpr>,
+    t: &'a Tables<L>,
+    table_place: u32,
+    plan: &Plan,
+    book: &B,
+    work: &mut Steps<W>,
+    steps: &mut Steps<L>,
+    kept: &mut List<&'a Row>,
+) -> Result<(), ExecFault>
+    requires fit { All (IsFit (B.count book.now)) conjuncts.now }
+    requires table { table_place < length t.now.catalog.tables }
+    requires served { IsServed (B.count book.now) t.now.catalog (Some table_place) plan.now }
+    requires book { FitBook t.now.catalog (B.meaning book.now) t.now.rows t.now.indexes }
+    requires rows { All (All IsKept) (rows_in t.now.rows table_place) }
+    ensures told { TellsOf
+        (with_kept (λ row. acceptance (place row [] (B.meaning book.now)) conjuncts.now)
+        (map (λ r. r.now) kept.old)
+        (filter (is_entry t.now.catalog (B.meaning book.now) (Some table_place) plan.now)
+        (rows_in t.now.rows table_place))) (map (λ r. r.now) kept.new) result }
+    ensures work { GoesUpTo (list_any has_like conjuncts.now) (seeks t.now.catalog (Some table_place)
+        plan.now (rows_in t.now.rows table_place)) work.old work.new }
+    ensures fetched { steps.old ≤ steps.new }
+    ensures steps { steps.new ≤ steps.old + entries t.now.catalog (B.meaning book.now)
+        (Some table_place) plan.now (rows_in t.now.rows table_place) }
+{
+    let table = t.table(table_place);
+    match plan {
+        Plan::Scan => keep_rows(alloc, conjuncts, table, book, work, steps, kept),
+        Plan::ByIndex {
+            index,
+            intervals,
+            ..
+        } => match plan_rows(
+            alloc,
+            t,
+            table_place,
+            *index,
+            intervals.as_slice(),
+            book,
+            work,
+        ) {
+            Ok(numbers) => {
+                let numbers = numbers.as_slice();
+                keep_numbered(alloc, conjuncts, table, numbers, book, work, steps, kept)
+            }
+            Err(error) => Err(ExecFault::from(error)),
+        },
+    }
+}
+
 /// Appends the rows of a statement's source that it keeps to a list without any. `empty` is the row
-/// of a statement without a table.
+/// of a statement without a table. Of a table those rows alone are fetched, each once, that the
+/// statement's plan reads.
 pub(crate) fn kept_rows<'a, B: Book, W, L>(
     alloc: Global,
     q: &Typed,
@@ -118,21 +208,34 @@ pub(crate) fn kept_rows<'a, B: Book, W, L>(
     kept: &mut List<&'a Row>,
 ) -> Result<(), ExecFault>
     requires lawful { IsLawful t.now.catalog }
-    requires table { IfSome q.now.table (λ place. place < length t.now.catalog.tables) }
+    requires fits { FitsCatalog t.now.catalog (B.count book.now)
+        (λ id. (B.meaning book.now id).charset) }
+    requires sound { IsSoundStatement t.now.catalog q.now }
+    requires book { FitBook t.now.catalog (B.meaning book.now) t.now.rows t.now.indexes }
     requires fit { All (IsFit (B.count book.now)) q.now.conjuncts }
     requires empty { empty.now ≡ [] }
     requires none { kept.old ≡ [] }
     ensures told { TellsOf
-        (kept_rows (B.meaning book.now) q.now (source t.now q.now.table))
+        (kept_rows (B.meaning book.now) q.now (source t.now.rows q.now.table))
         (map (λ r. r.now) kept.new) result }
-    ensures readable { All (IsReadable t.now.catalog q.now.table) (source t.now q.now.table) }
-    ensures work { GoesOn (list_any has_like q.now.conjuncts) work.old work.new }
+    ensures readable { All (IsReadable t.now.catalog q.now.table)
+        (source t.now.rows q.now.table) }
+    ensures work { GoesUpTo (list_any has_like q.now.conjuncts)
+        (plan_seeks t.now.catalog (B.meaning book.now) t.now.rows q.now) work.old work.new }
     ensures fetched { steps.old ≤ steps.new }
-    ensures steps { steps.new ≤ steps.old + row_count t.now q.now.table }
+    ensures steps { steps.new
+        ≤ steps.old + plan_entries t.now.catalog (B.meaning book.now) t.now.rows q.now }
 {
     chars_law();
+    t.rows_law();
     match q.table {
-        Some(place) => { keep_rows(alloc, &q.conjuncts, t.table(place), book, work, steps, kept) }
+        Some(place) => match choose(alloc, q, t.catalog(), book) {
+            Ok(plan) => {
+                let conjuncts = &q.conjuncts;
+                keep_planned(alloc, conjuncts, t, place, &plan, book, work, steps, kept)
+            }
+            Err(error) => Err(ExecFault::from(error)),
+        },
         None => keep_row(alloc, &q.conjuncts, empty, book, work, kept),
     }
 }

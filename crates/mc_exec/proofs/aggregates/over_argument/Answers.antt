@@ -1,6 +1,5 @@
 -- The values of the argument, and what comes of them.
-use Rattle.std.proofs.Common.{◌≡◌, Bor, List, None, Some, ap, map, subst, sym, ◌∙◌}
-use Rattle.std.proofs.lemmas.List.Elements.{All-map}
+use Rattle.std.proofs.Common.{Bor, List, None, Some, ap, map, subst, sym, ◌∙◌}
 use Rattle.std.specs.Prelude.{All, Option, option_and_then}
 use Rattle.mc_eval.specs.Outcomes.{IsKept}
 use Rattle.mc_group.specs.Kinds.{IsOfKind}

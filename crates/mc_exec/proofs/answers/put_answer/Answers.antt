@@ -1,5 +1,5 @@
 -- What a scan keeps, and what is shown of it.
-use Rattle.std.proofs.Common.{◌≡◌, Bor, List, [], ap, map, subst, sym, ◌∙◌}
+use Rattle.std.proofs.Common.{Bor, List, [], ap, map, subst, sym, ◌∙◌}
 use Rattle.std.specs.Prelude.{All, Option, option_and_then}
 use Rattle.mc_catalog.specs.declared.catalog.Catalog.{Catalog}
 use Rattle.mc_eval.specs.Acceptance.{acceptance}
@@ -22,7 +22,7 @@ put_shown_rows-requires-clause-rows g c =
     let P : List Value → Type 0 = IsReadable t.catalog q.table in
     let accepted = λ (row : List Value). acceptance (place row [] m) q.conjuncts in
     let rows = map (λ (r : Bor (List Value)). r.now) c.kept_rows.new.kept in
-    let read : All P rows = kept_each P accepted (source t q.table) rows c.in-Ok.ensures.told
+    let read : All P rows = kept_each P accepted (source t.rows q.table) rows c.in-Ok.ensures.told
     c.in-Ok.ensures.readable in
     subst (λ (l : List (Bor (List Value))).
     All (λ (r : Bor (List Value)). IsReadable c.catalog.result.now q.table r.now) l)
@@ -54,7 +54,7 @@ returns-clause-told g c =
     let m = g.B.Book.meaning c.args.book.now in
     let t = c.args.t.now in
     let q = c.args.q.now in
-    fails (kept_rows m q (source t q.table)) (full_scan t.catalog m q (source t q.table))
+    fails (kept_rows m q (source t.rows q.table)) (full_scan t.catalog m q (source t.rows q.table))
     c.in-Err.fault (λ e. ap (option_and_then (λ (kept : List (List Value)).
     option_and_then (finish m q) (subjects_of t.catalog m q q.grouped kept))) e)
     c.in-Err.ensures.told

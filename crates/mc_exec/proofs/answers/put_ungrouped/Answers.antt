@@ -1,12 +1,10 @@
 -- Rows without groups, each as it is.
-use Rattle.std.proofs.Common.{◌≡◌, Bor, List, ap, map, subst, sym, ◌∙◌}
-use Rattle.std.specs.Prelude.{All, Option}
+use Rattle.std.proofs.Common.{Bor, List, map, subst, sym, ◌∙◌}
+use Rattle.std.specs.Prelude.{All}
 use Rattle.mc_values.specs.declared.value.Value.{Value}
-use Rattle.mc_exec.specs.FullScan.{finish}
-use Rattle.mc_exec.specs.Given.{Subject, alone}
+use Rattle.mc_exec.specs.Given.{Subject}
 use Rattle.mc_exec.specs.Ready.{IsShowable}
 use Rattle.mc_exec.specs.Steps.{IsReadable}
-use Rattle.mc_exec.specs.Told.{TellsOf}
 use Rattle.mc_exec.proofs.KeyRows.{seen_all}
 use Rattle.mc_exec.proofs.SoundParts.{SoundLaws, alone_showable, fit_statement}
 use Rattle.mc_exec.proofs.answers.put_ungrouped.Goals as goal

@@ -1,5 +1,5 @@
 -- A number that is the next new one counts.
-use Rattle.std.proofs.Common.{◌≡◌, arith, ap, ◌∙◌, subst, sym, length, ◌+◌, drop}
+use Rattle.std.proofs.Common.{◌≡◌, arith, subst, sym, length, ◌+◌, drop}
 use Rattle.mc_exec.specs.Steps.{picked}
 use Rattle.mc_exec.proofs.Firsts.{counted_end, counted_next, counted_same}
 use Rattle.mc_exec.proofs.counts.group_count.Goals as goal

@@ -1,6 +1,5 @@
 use Rattle.std.proofs.Common.{◌≡◌, ◌+◌, ◌≤◌, drop, length}
 use Rattle.mc_exec.specs.Steps.{picked}
-use Rattle.mc_exec.proofs.Firsts.{picked_firsts}
 use Rattle.mc_exec.proofs.counts.group_count.Given as goal
 
 abbrev pub invariant-loop-number : goal.invariant-loop-number

@@ -1,5 +1,5 @@
 -- The items of all subjects, and what is shown of those that are picked.
-use Rattle.std.proofs.Common.{◌≡◌, List, Some, None, true, ap, subst, sym, ◌∙◌}
+use Rattle.std.proofs.Common.{List, Some, None, true, ap, subst, sym, ◌∙◌}
 use Rattle.std.specs.Prelude.{All, Option, option_map}
 use Rattle.mc_values.specs.declared.value.Value.{Value}
 use Rattle.mc_exec.specs.FullScan.{arranged, distinct, finish}

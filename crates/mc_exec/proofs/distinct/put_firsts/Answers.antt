@@ -1,16 +1,13 @@
 -- The subjects that are picked have the lines that no earlier line has.
-use Rattle.std.proofs.Common.{◌≡◌, ℕ, List, Some, true, length, map, ap, subst, sym, ◌∙◌}
+use Rattle.std.proofs.Common.{◌≡◌, List, length, ap, subst, sym, ◌∙◌}
 use Rattle.std.proofs.lemmas.List.{length-map}
 use Rattle.std.proofs.lemmas.List.Elements.{All-from_recursion, recursion_from_All}
 use Rattle.std.specs.List.{position_or_len}
-use Rattle.std.specs.Prelude.{All, OnOk, option_map}
+use Rattle.std.specs.Prelude.{All, option_map}
 use Rattle.mc_group.specs.Groups.{firsts, group_numbers, same_row}
 use Rattle.mc_group.specs.Kinds.{IsKeyRow}
 use Rattle.mc_group.specs.declared.kind.KeyKind.{KeyKind}
-use Rattle.mc_typing.specs.declared.typed.TypedExpr.{TypedExpr}
-use Rattle.mc_values.specs.declared.value.Value.{Value}
-use Rattle.mc_exec.specs.FullScan.{distinct}
-use Rattle.mc_exec.specs.Given.{Subject, all_of}
+use Rattle.mc_exec.specs.Given.{all_of}
 use Rattle.mc_exec.specs.Grouped.{value_kinds}
 use Rattle.mc_exec.specs.Ready.{IsShowable}
 use Rattle.mc_exec.specs.Shown.{line_in}

@@ -1,5 +1,5 @@
 -- The places of all subjects, in the order of their keys.
-use Rattle.std.proofs.Common.{◌≡◌, ℕ, ◌<◌, List, [], ap, get_or, length, map, subst, sym, ◌∙◌}
+use Rattle.std.proofs.Common.{◌≡◌, ℕ, ◌<◌, List, [], ap, get_or, length, subst, sym, ◌∙◌}
 use Rattle.std.specs.Prelude.{All, Option}
 use Rattle.mc_group.specs.Order.{row_order}
 use Rattle.mc_values.specs.declared.value.Value.{Value}

@@ -1,5 +1,5 @@
 -- A group without rows is evaluated in one of NULLs.
-use Rattle.std.proofs.Common.{◌≡◌, ◌∷◌, [], Bor, List, length, map}
+use Rattle.std.proofs.Common.{◌∷◌, [], Bor, List, length, map}
 use Rattle.mc_values.specs.declared.value.Value.{Value}
 use Rattle.mc_exec.specs.Shown.{line_in, or_one}
 use Rattle.mc_exec.proofs.Standing.{finds_lent, is_zero, not_zero, or_none, or_some}

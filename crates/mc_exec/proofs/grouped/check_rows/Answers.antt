@@ -3,7 +3,7 @@ use Rattle.std.proofs.Common.{Bor, List, ◌||◌}
 use Rattle.std.specs.List.{list_any}
 use Rattle.mc_eval.specs.Fit.{has_like}
 use Rattle.mc_values.specs.declared.value.Value.{Value}
-use Rattle.mc_exec.specs.Given.{Subject, all_of}
+use Rattle.mc_exec.specs.Given.{all_of}
 use Rattle.mc_exec.specs.Shown.{line_in}
 use Rattle.mc_exec.proofs.Filled.{fails}
 use Rattle.mc_exec.proofs.Scans.{goes_on}

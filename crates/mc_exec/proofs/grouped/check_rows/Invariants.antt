@@ -2,7 +2,6 @@
 use Rattle.std.specs.Prelude.{◌||◌}
 use Rattle.std.specs.List.{list_any}
 use Rattle.mc_eval.specs.Fit.{has_like}
-use Rattle.mc_exec.specs.Given.{Subject}
 use Rattle.mc_exec.specs.Shown.{line_in}
 use Rattle.mc_exec.specs.Steps.{GoesOn}
 use Rattle.mc_exec.proofs.Standing.{IsChecked}

@@ -2,7 +2,7 @@
 use Rattle.std.proofs.Common.{◌≡◌, ℕ, Bor, List, None, Some, ap, map, refl, subst, sym, ◌∙◌, ◌||◌}
 use Rattle.std.proofs.lemmas.List.Elements.{All-weaker}
 use Rattle.std.specs.List.{list_any}
-use Rattle.std.specs.Prelude.{All, option_map}
+use Rattle.std.specs.Prelude.{All}
 use Rattle.mc_eval.specs.Fit.{has_like}
 use Rattle.mc_eval.specs.Outcomes.{IsKept}
 use Rattle.mc_typing.specs.declared.typed.TypedExpr.{TypedExpr}

@@ -1,15 +1,15 @@
 -- What stands for the groups, and what is shown of it.
-use Rattle.std.proofs.Common.{◌≡◌, Bor, List, None, Some, ap, length, map, subst, sym, ◌∙◌, true}
+use Rattle.std.proofs.Common.{Bor, List, ap, map, subst, sym, ◌∙◌, true}
 use Rattle.std.proofs.lemmas.List.Elements.{All-from_recursion, recursion_from_All}
 use Rattle.std.specs.List.{zip}
 use Rattle.std.specs.Prelude.{All, Option, option_and_then, option_map}
 use Rattle.mc_eval.specs.Outcomes.{IsKept}
 use Rattle.mc_values.specs.declared.value.Value.{Value}
 use Rattle.mc_exec.specs.FullScan.{finish}
-use Rattle.mc_exec.specs.Given.{Subject, all_of}
+use Rattle.mc_exec.specs.Given.{all_of}
 use Rattle.mc_exec.specs.Grouped.{groups_by}
 use Rattle.mc_exec.specs.Ready.{IsShowable}
-use Rattle.mc_exec.specs.Shown.{group_values, null_row, shown_of, standing, subjects_of}
+use Rattle.mc_exec.specs.Shown.{group_values, shown_of, standing, subjects_of}
 use Rattle.mc_exec.specs.Steps.{IsReadable}
 use Rattle.mc_exec.specs.Told.{TellsOf}
 use Rattle.mc_exec.proofs.Filled.{fails}

@@ -2,7 +2,6 @@
 use Rattle.std.proofs.Common.{◌≡◌, [], List, ◌++◌, ◌∷◌, ap, arith, get_or, sym, ◌∙◌}
 use Rattle.std.proofs.lemmas.List.{get_or_default}
 use Rattle.mc_values.specs.declared.value.Value.{Value}
-use Rattle.mc_exec.specs.Given.{Subject}
 use Rattle.mc_exec.specs.Shown.{standing}
 use Rattle.mc_exec.proofs.Standing.{stand_more, with_these}
 use Rattle.mc_exec.proofs.grouped.put_standing.Goals as goal

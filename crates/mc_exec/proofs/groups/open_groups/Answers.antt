@@ -1,5 +1,5 @@
 -- One more group without rows.
-use Rattle.std.proofs.Common.{◌≡◌, ◌++◌, ◌∷◌, [], ◌+◌, List, ap, arith, sym, ◌∙◌}
+use Rattle.std.proofs.Common.{◌++◌, ◌∷◌, [], ◌+◌, List, ap, arith, sym, ◌∙◌}
 use Rattle.mc_values.specs.declared.value.Value.{Value}
 use Rattle.mc_exec.proofs.Parted.{open_more}
 use Rattle.mc_exec.proofs.groups.open_groups.Goals as goal

@@ -1,11 +1,11 @@
 -- The values of the expressions, and the groups by them.
-use Rattle.std.proofs.Common.{◌≡◌, Bor, List, None, Some, ap, map, sym, ◌∙◌}
-use Rattle.std.specs.Prelude.{All, Option, option_map}
+use Rattle.std.proofs.Common.{Bor, List, None, Some, ap, map, sym, ◌∙◌}
+use Rattle.std.specs.Prelude.{All, option_map}
 use Rattle.mc_eval.specs.Outcomes.{IsKept}
 use Rattle.mc_group.specs.Groups.{same_row}
 use Rattle.mc_group.specs.Kinds.{IsKeyRow}
 use Rattle.mc_values.specs.declared.value.Value.{Value}
-use Rattle.mc_exec.specs.Given.{all_of, alone, values_in, values_of}
+use Rattle.mc_exec.specs.Given.{alone, values_in, values_of}
 use Rattle.mc_exec.specs.Grouped.{grouped, value_kinds}
 use Rattle.mc_exec.specs.Ready.{GiveKinds}
 use Rattle.mc_exec.specs.Steps.{with_all}

@@ -1,8 +1,7 @@
 -- The items beside the keys.
-use Rattle.std.proofs.Common.{◌≡◌, [], List, None, Some, ap, subst, sym, ◌∙◌}
+use Rattle.std.proofs.Common.{◌≡◌, List, None, Some, ap, subst, sym, ◌∙◌}
 use Rattle.mc_typing.specs.declared.typed.TypedExpr.{TypedExpr}
 use Rattle.mc_typing.specs.declared.typed.TypedOrder.{TypedOrder}
-use Rattle.mc_values.specs.declared.value.Value.{Value}
 use Rattle.mc_exec.specs.Given.{keys_in, value_in, values_in}
 use Rattle.mc_exec.specs.Shown.{line_in}
 use Rattle.mc_exec.specs.Steps.{with_all}

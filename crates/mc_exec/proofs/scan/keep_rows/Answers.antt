@@ -17,13 +17,13 @@ returns-in-Err-clause-told g c =
     acceptance (place row [] m) c.args.conjuncts.now in
     let found = map (λ r. r.now) c.loop-i.kept in
     let first = map (λ r. r.now) c.args.kept.now in
-    let row = c.fetch_row.result.now in
+    let row = c.fetch.result.now in
     fails (kept_with (accepted row) found row) (with_kept accepted first c.args.table.now)
     c.in-Err.fault (scan_none accepted c.args.table.now first c.loop-i.i found row
-    c.fetch_row.ensures.row c.loop-i.invariant.0) c.in-Err.ensures.told
+    c.fetch.ensures.row c.loop-i.invariant.0) c.in-Err.ensures.told
 
 pub returns-in-Err-clause-fetched : goal.returns-in-Err-clause-fetched
-returns-in-Err-clause-fetched g c = omega (arith, c.fetch_row.ensures.fetched, c.loop-i.invariant.2)
+returns-in-Err-clause-fetched g c = omega (arith, c.fetch.ensures.later, c.loop-i.invariant.2)
 
 pub loop-i-preserved : goal.loop-i-preserved
 loop-i-preserved g c =
@@ -33,12 +33,12 @@ loop-i-preserved g c =
     let found = map (λ r. r.now) c.loop-i.kept in
     let more = map (λ r. r.now) c.keep_row.new.kept in
     let first = map (λ r. r.now) c.args.kept.now in
-    let row = c.fetch_row.result.now in (
-      scan_more accepted c.args.table.now first c.loop-i.i found more row c.fetch_row.ensures.row
+    let row = c.fetch.result.now in (
+      scan_more accepted c.args.table.now first c.loop-i.i found more row c.fetch.ensures.row
           c.loop-i.invariant.0 c.in-Ok.ensures.told,
       goes_on (list_any has_like c.args.conjuncts.now) _ _ _ c.loop-i.invariant.1 c.in-Ok.ensures.work,
-      omega (arith, c.fetch_row.ensures.fetched, c.loop-i.invariant.2),
-      omega (arith, c.fetch_row.ensures.steps, c.loop-i.invariant.3),
+      omega (arith, c.fetch.ensures.later, c.loop-i.invariant.2),
+      omega (arith, c.fetch.ensures.steps, c.loop-i.invariant.3),
     )
 
 pub returns-clause-told : goal.returns-clause-told

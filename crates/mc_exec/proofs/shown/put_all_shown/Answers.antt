@@ -1,6 +1,5 @@
 -- The subject at each place gives what is shown next.
 use Rattle.std.proofs.Common.{◌≡◌, ℕ, Some, [], get_or, subst, sym}
-use Rattle.std.proofs.lemmas.List.{get_or_default}
 use Rattle.std.specs.Prelude.{option_map}
 use Rattle.std.specs.List.{list_any}
 use Rattle.mc_eval.specs.Fit.{has_like}

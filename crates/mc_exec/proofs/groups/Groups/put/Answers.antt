@@ -1,5 +1,5 @@
 -- The row is behind the others of its group.
-use Rattle.std.proofs.Common.{◌≡◌, ◌<◌, ◌++◌, ◌∷◌, [], Bor, List, ap, arith, get_or, length}
+use Rattle.std.proofs.Common.{◌<◌, ◌++◌, ◌∷◌, [], Bor, List, ap, arith, get_or, length}
 use Rattle.std.proofs.Common.{map, set}
 use Rattle.std.proofs.Common.{subst, sym, ◌∙◌}
 use Rattle.std.proofs.lemmas.List.{length-map}
