@@ -1,25 +1,68 @@
 -- What may still be spent, and how one more statement moves it.
-use Rattle.std.proofs.Common.{◌≡◌, ℕ, ◌+◌, ◌≤◌, Bool, true, false, ◌||◌, List, [], ◌∷◌, Result, Ok, Err, refl, sym, ap, subst, ◌∙◌, arith}
+use Rattle.std.proofs.Common.{◌≡◌, ℕ, ◌+◌, ◌≤◌, Bool, true, List, [], ◌∷◌, Option, Some, None, IfSome, Result, Ok, Err, refl, sym, ap, subst, ◌∙◌, arith}
+use Rattle.std.specs.Prelude.{IsSomeAnd, if◌then◌else◌}
 use Rattle.mc_ast.specs.declared.statement.Statement.{Statement}
 use Rattle.mc_base.specs.declared.refusal.Refusal.{Refusal}
 use Rattle.mc_base.specs.declared.span.Span.{Span}
+use Rattle.mc_catalog.specs.declared.catalog.Catalog.{Catalog}
+use Rattle.mc_order.specs.Meaning.{Meaning}
 use Rattle.mc_token.specs.Statements.{statements}
 use Rattle.mc_token.specs.Tokens.{tokens_of}
+use Rattle.mc_typing.specs.declared.typed.Typed.{Typed}
 use Rattle.mycoll.specs.Answers.{Answered, AreAll, IsAnswer, read_said}
-use Rattle.mycoll.specs.Costs.{Cost, Costs, IsCost, IsWithin, free, read_cost, together, tree_cost}
+use Rattle.mycoll.specs.Costs.{Cost, Costs, IsCost, IsWithin, compares_of_both, explain_cost, free, plan_cost, read_cost, select_cost, together, tree_cost}
 use Rattle.mycoll.specs.Reading.{Reads}
-use Rattle.mycoll.specs.World.{World, State}
+use Rattle.mycoll.specs.World.{World, State, Rows}
 use Rattle.mycoll.specs.declared.said.Said.{Said}
 use Rattle.mycoll.proofs.OneAnswer.{OneOutcome, one_read}
 
+-- The comparisons made are within a bound, if there is one.
+abbrev IsUpTo : Option ℕ → (compared compared' : ℕ) → Type 0
+IsUpTo most compared compared' = IfSome most (λ n. compared' ≤ compared + n)
+
+still : (most : Option ℕ) (compared : ℕ) → IsUpTo most compared compared
+still None compared = tt
+still (Some most) compared = omega arith
+
 -- Nothing was spent.
 pub unspent : (cost : Cost) (fetched compared : ℕ) → IsWithin cost fetched fetched compared compared
-unspent cost fetched compared = record { fetches = omega arith; compares = λ _. refl }
+unspent cost fetched compared = record { fetches = omega arith; compares = still cost.compares compared }
+
+-- What EXPLAIN costs, a statement with EXPLAIN does.
+pub explained_within : (c : Catalog) (meaning : ℕ → Meaning) (rows : List Rows) (q : Typed) (fetched compared compared' : ℕ)
+    → q.explain ≡ true → IsWithin (explain_cost c meaning rows q) fetched fetched compared compared'
+    → IsWithin (plan_cost c meaning rows q) fetched fetched compared compared'
+explained_within c meaning rows q fetched compared compared' e h =
+    subst (λ (b : Bool). IsWithin (if b then explain_cost c meaning rows q else select_cost c meaning rows q) fetched fetched compared compared')
+    (sym e) h
+
+-- Where the whole has a bound on comparisons, the rest has what is left of it.
+abbrev AreComparesLeft : (whole rest : Option ℕ) (compared compared' : ℕ) → Type 0
+AreComparesLeft whole rest compared compared' =
+    IfSome whole (λ most. IsSomeAnd rest (λ more. compared' + more ≤ compared + most))
+
+all_compares : (whole : Option ℕ) (compared : ℕ) → AreComparesLeft whole whole compared compared
+all_compares None compared = tt
+all_compares (Some most) compared = omega arith
+
+compares_within : (whole rest : Option ℕ) (compared compared' : ℕ)
+    → AreComparesLeft whole rest compared compared' → IsUpTo whole compared compared'
+compares_within None rest compared compared' h = tt
+compares_within (Some most) (Some more) compared compared' h = omega (arith, h)
+compares_within (Some most) None compared compared' h = absurd h
+
+compares_spent : (whole own more : Option ℕ) (compared compared' compared'' : ℕ)
+    → AreComparesLeft whole (compares_of_both own more) compared compared' → IsUpTo own compared' compared''
+    → AreComparesLeft whole more compared compared''
+compares_spent None own more compared compared' compared'' h one = tt
+compares_spent (Some most) (Some n) (Some more) compared compared' compared'' h one = omega (arith, h, one)
+compares_spent (Some most) (Some n) None compared compared' compared'' h one = absurd h
+compares_spent (Some most) None more compared compared' compared'' h one = absurd h
 
 -- Whatever the whole may cost, the rest may cost what is left of it.
 pub record IsLeft (whole rest : Cost) (fetched fetched' compared compared' : ℕ) : Type 0 where
   pub fetches : fetched' + rest.fetches ≤ fetched + whole.fetches
-  pub compares : whole.compares ≡ false → (rest.compares ≡ false) × (compared' ≡ compared)
+  pub compares : AreComparesLeft whole.compares rest.compares compared compared'
 
 -- These statements are left of a script in a state, and may cost what is left of the whole.
 abbrev pub IsCovered : World → State → List ℕ → State → List Span → (fetched fetched' compared compared' : ℕ) → Type 0
@@ -31,14 +74,14 @@ IsCovered w s script left rest fetched fetched' compared compared' =
 pub all_left : (w : World) (s : State) (script : List ℕ) (fetched compared : ℕ)
     → IsCovered w s script s (statements script 0) fetched fetched compared compared
 all_left w s script fetched compared = λ whole costs.
-    (whole, costs, record { fetches = omega arith; compares = λ e. (e, refl) })
+    (whole, costs, record { fetches = omega arith; compares = all_compares whole.compares compared })
 
 -- What is left is within the whole.
 pub left_within : (whole rest : Cost) (fetched fetched' compared compared' : ℕ)
     → IsLeft whole rest fetched fetched' compared compared' → IsWithin whole fetched fetched' compared compared'
 left_within whole rest fetched fetched' compared compared' h = record {
   fetches = omega (arith, h.fetches);
-  compares = λ e. (h.compares e).1;
+  compares = compares_within whole.compares rest.compares compared compared' h.compares;
 }
 
 pub covered_within : (w : World) (s : State) (script : List ℕ) (left : State) (rest : List Span) (fetched fetched' compared compared' : ℕ)
@@ -47,14 +90,6 @@ pub covered_within : (w : World) (s : State) (script : List ℕ) (left : State) 
 covered_within w s script left rest fetched fetched' compared compared' h = λ whole costs.
     let more = h whole costs in left_within whole more.0 fetched fetched' compared compared' more.2
 
-or_left : (a b : Bool) → (a || b) ≡ false → a ≡ false
-or_left true b e = e
-or_left false b e = refl
-
-or_right : (a b : Bool) → (a || b) ≡ false → b ≡ false
-or_right true b e = cc
-or_right false b e = e
-
 -- One statement of those that are left spends within its own cost.
 spent_one : (whole own more : Cost) (fetched fetched' fetched'' compared compared' compared'' : ℕ)
     → IsLeft whole (together own more) fetched fetched' compared compared'
@@ -62,9 +97,7 @@ spent_one : (whole own more : Cost) (fetched fetched' fetched'' compared compare
     → IsLeft whole more fetched fetched'' compared compared''
 spent_one whole own more fetched fetched' fetched'' compared compared' compared'' h one = record {
   fetches = omega (arith, h.fetches, one.fetches);
-  compares = λ e.
-      let both = h.compares e in
-      (or_right own.compares more.compares both.0, one.compares (or_left own.compares more.compares both.0) ∙ both.1);
+  compares = compares_spent whole.compares own.compares more.compares compared compared' compared'' h.compares one.compares;
 }
 
 -- What one statement spent is within its cost, whatever that is.

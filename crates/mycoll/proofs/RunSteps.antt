@@ -1,12 +1,15 @@
 -- From what was written to the task that was done.
-use Rattle.std.proofs.Common.{◌≡◌, ℕ, Bool, true, false, List, Option, Some, None, Result, Ok, Err, IfSome, refl, sym, ap, subst, inl, inr}
+use Rattle.std.proofs.Common.{◌≡◌, ℕ, ◌+◌, ◌≤◌, Bool, true, false, List, Option, Some, None, Result, Ok, Err, IfSome, refl, sym, ap, subst, inl, inr, arith}
 use Rattle.std.specs.Option.{option_map}
 use Rattle.mc_base.specs.declared.refusal.FileRefusal.{FileRefusal}
+use Rattle.mc_gather.specs.Indexed.{index_fetches}
+use Rattle.mc_token.specs.Statements.{statements}
 use Rattle.mycoll.specs.declared.status.Status.{Status}
 use Rattle.mycoll.specs.declared.status.Status.TheVariants.{Done, SomeRefused, Usage, FilesRefused, ReadFault, WriteFault, NoMemory}
 use Rattle.mycoll.specs.declared.output.Stopped.{Stopped}
 use Rattle.mycoll.specs.declared.output.Stopped.TheVariants.{Fault, NoMemory as OutOfMemory}
 use Rattle.mycoll.specs.Answering.{AnswersWritten, Written}
+use Rattle.mycoll.specs.Costs.{Cost, Costs, IsWithin, compares_of_both}
 use Rattle.mycoll.specs.Outcome.{Accepted, files_outcome, refused_line}
 use Rattle.mycoll.specs.Run.{Task, accepted_state, accepted_world, task, files_task, IsSpentOn, HasWritten, LineWritten, ScriptWritten, IsComplete, ReadCause, WriteCause, answered_status, line_status}
 use Rattle.mycoll.specs.Run.Task.{one_line, script_task}
@@ -140,6 +143,32 @@ pub idle_files : (told : Told) (named : FileNames) (fetched compared : ℕ)
     → IfSome told (λ files. IsSpentOn (files_task files named) fetched fetched compared compared)
 idle_files None named fetched compared = tt
 idle_files (Some files) named fetched compared = λ cost _. unspent cost fetched compared
+
+-- Without comparisons for the indexes, those for the answers are all.
+no_more_compares : (most : Option ℕ) (compared compared' : ℕ)
+    → IfSome most (λ n. compared' ≤ compared + n)
+    → IfSome (compares_of_both (Some 0) most) (λ n. compared' ≤ compared + n)
+no_more_compares None compared compared' h = tt
+no_more_compares (Some most) compared compared' h = omega (arith, h)
+
+-- What was spent on the indexes and then on the answers was spent on the script.
+pub answers_spent : (w : World) (s : State) (script : List ℕ) (fetched fetched' fetched'' compared compared' : ℕ)
+    → fetched' ≤ fetched + index_fetches w.catalog s.rows
+    → ((cost : Cost) → Costs w s script (statements script 0) cost → IsWithin cost fetched' fetched'' compared compared')
+    → IsSpentOn (script_task w s script) fetched fetched'' compared compared'
+answers_spent w s script fetched fetched' fetched'' compared compared' built answered = λ cost may.
+    let within = answered may.0 may.1 in
+    subst (λ (c : Cost). IsWithin c fetched fetched'' compared compared') (sym may.2) (record {
+      fetches = omega (arith, built, within.fetches);
+      compares = no_more_compares may.0.compares compared compared' within.compares;
+    })
+
+-- Memory ran out while the indexes were built.
+pub indexes_spent : (w : World) (s : State) (script : List ℕ) (fetched fetched' compared : ℕ)
+    → fetched' ≤ fetched + index_fetches w.catalog s.rows
+    → IsSpentOn (script_task w s script) fetched fetched' compared compared
+indexes_spent w s script fetched fetched' compared built =
+    answers_spent w s script fetched fetched' fetched' compared compared built (λ cost _. unspent cost fetched' compared)
 
 -- What was spent on the script of accepted files was spent on their task.
 pub script_spent : (told : Told) (named : FileNames) (accepted : Accepted) (fetched fetched' compared compared' : ℕ)

@@ -6,16 +6,18 @@ use Rattle.std.specs.List.{list_any, flat_map}
 use Rattle.mc_ast.specs.declared.statement.Statement.{Statement}
 use Rattle.mc_base.specs.declared.refusal.Refusal.{Refusal}
 use Rattle.mc_base.specs.declared.span.Span.{Span}
+use Rattle.mc_catalog.specs.declared.catalog.Catalog.{Catalog}
+use Rattle.mc_exec.specs.Explained.{explained}
 use Rattle.mc_exec.specs.FullScan.{answer}
+use Rattle.mc_order.specs.Meaning.{Meaning}
 use Rattle.mc_token.specs.Statements.{statements}
 use Rattle.mc_typing.specs.Statements.{typed_statement}
 use Rattle.mc_typing.specs.declared.typed.Typed.{Typed}
 use Rattle.mc_values.specs.declared.answer.Answer.{Answer}
-use Rattle.mycoll.specs.Built.{is_built}
-use Rattle.mycoll.specs.Messages.{not_built, out_of_range}
+use Rattle.mycoll.specs.Messages.{out_of_range}
 use Rattle.mycoll.specs.Reading.{Reads}
 use Rattle.mycoll.specs.SaidTexts.{said_text}
-use Rattle.mycoll.specs.World.{World, State, session_of, stored_in}
+use Rattle.mycoll.specs.World.{World, State, Rows, session_of}
 use Rattle.mycoll.specs.declared.said.Said.{Said}
 use Rattle.mycoll.specs.declared.said.Said.TheVariants.{Table, Refused}
 
@@ -24,18 +26,22 @@ abbrev pub scan_said : Option Answer → Said
 scan_said (Some answer) = Table answer
 scan_said None = Refused out_of_range
 
--- What a typed statement is answered with: the rows of a full scan. A refusal of typing is its
--- answer.
+-- What a typed statement over these rows is answered with: the rows of a full scan, whichever
+-- indexes there are; with EXPLAIN its plan.
+abbrev pub query_said : Catalog → (ℕ → Meaning) → List Rows → Typed → Said
+query_said c meaning rows q =
+    if q.explain then Table (explained c meaning rows q)
+    else scan_said (answer c meaning rows q)
+
+-- What a statement is answered with that is typed so. A refusal of typing is its answer.
 abbrev pub typed_said : World → State → Result Typed Refusal → Said
-typed_said w s (Ok q) = scan_said (answer (stored_in w s) w.meaning q)
+typed_said w s (Ok q) = query_said w.catalog w.meaning s.rows q
 typed_said w s (Err refusal) = Refused refusal
 
 -- What a tree is answered with, and the state that it leaves: the one that it finds.
 unfoldable pub tree_said : World → State → List ℕ → Statement → Said × State
 tree_said w s script tree =
-    if is_built tree
-    then (typed_said w s (typed_statement script tree w.catalog (session_of s)), s)
-    else (Refused not_built, s)
+    (typed_said w s (typed_statement script tree w.catalog (session_of s)), s)
 
 -- What a statement is answered with that reads so, and the state that it leaves. A refusal of its
 -- syntax leaves the state as it was.

@@ -1,5 +1,4 @@
 pub mod Messages
-pub mod Built
 pub mod Reading
 pub mod Unanswered
 pub mod World

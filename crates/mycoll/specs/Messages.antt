@@ -18,10 +18,6 @@ too_deep place = record {
 abbrev pub too_many_tokens : Refusal
 too_many_tokens = record { number = 9004; text = codes "more than 2048 tokens" }
 
--- The statement has a reading, and isn't answered yet.
-abbrev pub not_built : Refusal
-not_built = record { number = 9099; text = codes "not built yet" }
-
 -- A number that the rows ask for is outside 64 bits.
 abbrev pub out_of_range : Refusal
 out_of_range = record { number = 1690; text = codes "BIGINT value is out of range" }

@@ -11,7 +11,7 @@ use Rattle.mycoll.specs.declared.status.Status.TheVariants.{ReadFault, WriteFaul
 use Rattle.mycoll.specs.declared.output.Stopped.{Stopped}
 use Rattle.mycoll.specs.declared.output.Stopped.TheVariants.{Fault, NoMemory as OutOfMemory}
 use Rattle.mycoll.specs.Answering.{AllWritten, FirstWritten, PartWritten}
-use Rattle.mycoll.specs.Costs.{Cost, Costs, IsWithin, free}
+use Rattle.mycoll.specs.Costs.{Cost, Costs, IsWithin, free, index_cost, together}
 use Rattle.mycoll.specs.Outcome.{Accepted, files_outcome, refused_line}
 use Rattle.mycoll.specs.Words.{FileNames, WordsForm, IsOfFiles, words_form, usage_line}
 use Rattle.mycoll.specs.Words.WordsForm.{file_words, no_form}
@@ -88,10 +88,13 @@ abbrev pub IsDone : Task → Status → Type 0
 IsDone (one_line text ends) status = status ≡ ends
 IsDone (script_task w s script) status = (status ≡ Done) ⊎ (status ≡ SomeRefused)
 
--- What a task may cost: one line is free, and a script may cost what its statements may.
+-- What a task may cost: one line is free, and a script may cost what the indexes do and its
+-- statements may.
 abbrev pub MayCost : Task → Cost → Type 0
 MayCost (one_line text ends) cost = cost ≡ free
-MayCost (script_task w s script) cost = Costs w s script (statements script 0) cost
+MayCost (script_task w s script) cost = (answers : Cost)
+    × Costs w s script (statements script 0) answers
+    × (cost ≡ together (index_cost w s) answers)
 
 -- No more was spent than a task may cost, whatever it ended with.
 abbrev pub IsSpentOn : Task → (fetched fetched' compared compared' : ℕ) → Type 0

@@ -5,7 +5,6 @@ use Rattle.mc_catalog.specs.Fits.{FitsCatalog}
 use Rattle.mc_catalog.specs.Lawful.{IsLawful}
 use Rattle.mc_catalog.specs.declared.catalog.Catalog.{Catalog}
 use Rattle.mc_charset.specs.declared.collation_id.CollId.{CollId}
-use Rattle.mc_exec.specs.Stored.{Stored}
 use Rattle.mc_order.specs.Meaning.{Meaning}
 use Rattle.mc_typing.specs.declared.session.Session.{Session}
 use Rattle.mc_values.specs.declared.value.Value.{Value}
@@ -31,10 +30,6 @@ world_of catalog meaning = record { catalog = catalog; meaning = meaning }
 -- A session as a state, with the rows of the tables.
 abbrev pub state_of : Session → List Rows → State
 state_of session rows = record { connection = session.connection; rows = rows }
-
--- The catalog of a world with the rows of a state.
-abbrev pub stored_in : World → State → Stored
-stored_in w s = record { catalog = w.catalog; rows = s.rows }
 
 -- The session in which a statement is typed.
 abbrev pub session_of : State → Session

@@ -37,10 +37,10 @@ const READ: [Script; 11] = [
         written: b"ERROR 1273: Unknown collation: 'nope'\n",
     },
     Script {
-        why: "not built comes before the refusals of items",
+        why: "a refusal under EXPLAIN",
         script: b"EXPLAIN SELECT 'a' COLLATE nope = 'a'",
         status: Status::SomeRefused,
-        written: b"ERROR 9099: not built yet\n",
+        written: b"ERROR 1273: Unknown collation: 'nope'\n",
     },
     Script {
         why: "comparisons do not chain",
@@ -89,29 +89,6 @@ fn is_read_so(alloc: Global, row: &Script) -> Result<bool, NoMemory> {
 fn statements_are_read_by_the_grammar(rt: HostRuntime) {
     for row in &READ {
         assert!(rt; is_read_so(rt.alloc(), row).unwrap_or(false), "{}", row.why);
-    }
-}
-
-/// Statements that are read and not answered yet.
-const NOT_BUILT: [&str; 3] = [
-    "EXPLAIN SELECT 1",
-    "EXPLAIN SELECT COUNT(*) FROM nope",
-    "EXPLAIN SELECT nope FROM t WHERE 1 GROUP BY a",
-];
-
-fn is_not_built(alloc: Global, script: &str) -> Result<bool, NoMemory> {
-    let script = Text::from_slice(alloc, script.as_bytes())?;
-    let written = b"ERROR 9099: not built yet\n";
-    is_answered(alloc, script, Status::SomeRefused, written)
-}
-
-#[test]
-fn other_statements_are_not_built(rt: HostRuntime) {
-    for script in &NOT_BUILT {
-        assert!(rt;
-            is_not_built(rt.alloc(), script).unwrap_or(false),
-            "{script}"
-        );
     }
 }
 

@@ -5,14 +5,13 @@
 //! by (the catalog, and what its collations mean), and the states before and behind it; `laws` says
 //! that a script has one list of them.
 //!
-//! Its definitions stand in `specs/`: read `Words`, `Tables`, `Outcome`, `Reading`, `Built`,
-//! `World`, `Answers`, `Costs`, `SaidTexts`, `Answering` and `Run` in that order. In `src/` the files go
+//! Its definitions stand in `specs/`: read `Words`, `Tables`, `Outcome`, `Reading`, `World`,
+//! `Answers`, `Costs`, `SaidTexts`, `Answering` and `Run` in that order. In `src/` the files go
 //! through `words`, `catalog_file`, `script`, `table_files` and `opening`, and a statement through
-//! `reading`, `built`, `answering` and `output`; `run` joins them.
+//! `reading`, `answering` and `output`; `run` joins them.
 #![tactic(auto)]
 
 mod answering;
-mod built;
 mod catalog_file;
 #[cfg(test)]
 mod catalog_tests;
@@ -26,6 +25,8 @@ mod laws;
 mod messages;
 mod opening;
 mod output;
+#[cfg(test)]
+mod plan_tests;
 mod reading;
 mod refused;
 mod run;

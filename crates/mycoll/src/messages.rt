@@ -1,10 +1,4 @@
-ghost use Rattle.mycoll.specs.Messages.{
-  no_reading,
-  too_deep,
-  too_many_tokens,
-  not_built,
-  out_of_range,
-};
+ghost use Rattle.mycoll.specs.Messages.{no_reading, too_deep, too_many_tokens, out_of_range};
 ghost use Rattle.std.specs.Prelude.{◌≡◌, ◌++◌, IfOk, decimal};
 
 use itoa::Buffer;
@@ -43,14 +37,6 @@ pub fn too_many_tokens(alloc: Global) -> Result<Refusal, NoMemory>
 {
     let text = Text::from_slice(alloc, b"more than 2048 tokens")?;
     Ok(Refusal { number: 9004, text })
-}
-
-/// The statement has a reading, and isn't answered yet.
-pub fn not_built(alloc: Global) -> Result<Refusal, NoMemory>
-    ensures { IfOk result (λ refusal. refusal ≡ not_built) }
-{
-    let text = Text::from_slice(alloc, b"not built yet")?;
-    Ok(Refusal { number: 9099, text })
 }
 
 /// A number that the rows ask for is outside 64 bits.

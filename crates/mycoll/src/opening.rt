@@ -2,7 +2,7 @@ ghost use Rattle.std.specs.Option.{option_copied};
 ghost use Rattle.std.specs.Prelude.{◌≡◌, ◌≤◌, IfOk, IfSome, IsUtf8, length};
 ghost use Rattle.mc_base.specs.FileOutcome.{greatest_file, FileCause, HasOutcome};
 ghost use Rattle.mc_catalog.specs.Lawful.{IsLawful};
-ghost use Rattle.mc_exec.specs.Stored.{AreTablesOf};
+ghost use Rattle.mc_gather.specs.Tables.{AreTablesOf};
 ghost use Rattle.mycoll.specs.Opened.{IsSound, accepted_of, opening_of};
 ghost use Rattle.mycoll.specs.Outcome.{
   files_outcome,

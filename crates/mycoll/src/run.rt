@@ -1,9 +1,7 @@
-ghost use Rattle.mc_exec.specs.Stored.{AreTablesOf};
-ghost use Rattle.mc_token.specs.Statements.{statements};
+ghost use Rattle.mc_gather.specs.Tables.{AreTablesOf};
 ghost use Rattle.std.specs.Option.{option_copied};
 ghost use Rattle.std.specs.Prelude.{◌≡◌, ◌≤◌, IfSome};
 ghost use Rattle.mycoll.specs.Answering.{AnswersWritten, Written, StopCause};
-ghost use Rattle.mycoll.specs.Costs.{Cost, Costs, IsWithin};
 ghost use Rattle.mycoll.specs.Opened.{IsSound, accepted_of};
 ghost use Rattle.mycoll.specs.Outcome.{refused_line};
 ghost use Rattle.mycoll.specs.Run.{
@@ -20,6 +18,7 @@ ghost use Rattle.mycoll.specs.Run.{
   WriteCause,
   FitsWords,
 };
+ghost use Rattle.mycoll.specs.Run.Task.{script_task};
 ghost use Rattle.mycoll.specs.Words.{words_form};
 ghost use Rattle.mycoll.specs.Words.WordsForm.{file_words};
 
@@ -73,7 +72,8 @@ fn write_refusal<S: Sink>(alloc: Global, refusal: &FileRefusal, out: &mut S) -> 
     }
 }
 
-/// Answers the script that was opened, by the collations and over the rows opened with it.
+/// Answers the script that was opened, by the collations and over the rows opened with it, and
+/// through the indexes that are built first.
 fn answer_opened<S: Sink, W, L>(
     alloc: Global,
     opened: Opened,
@@ -88,10 +88,9 @@ fn answer_opened<S: Sink, W, L>(
     ensures told { let accepted = accepted_of (opened, rows) in
         AnswersWritten (accepted_world accepted) (accepted_state accepted) accepted.script result
         (S.written out.old) (S.written out.new) }
-    ensures within { let accepted = accepted_of (opened, rows) in
-        (cost : Cost) → Costs (accepted_world accepted) (accepted_state accepted) accepted.script
-        (statements accepted.script 0) cost
-        → IsWithin cost steps.old steps.new work.old work.new }
+    ensures spent { let accepted = accepted_of (opened, rows) in IsSpentOn
+        (script_task (accepted_world accepted) (accepted_state accepted) accepted.script)
+        steps.old steps.new work.old work.new }
     ensures fetched { steps.old ≤ steps.new }
     ensures compared { work.old ≤ work.new }
     ensures cause { StopCause result (S.faults out.old) (S.faults out.new) }
@@ -194,7 +193,9 @@ fn run_words<F: Files, S: Sink, W, L>(
 
 /// Answers the words after the program's name: reads the files that they name through `files`, and
 /// writes the script's answers to `out`. It ends with the status of what it has written. Each row
-/// that is fetched ticks `steps`, and each comparison of characters for LIKE `work`.
+/// that is fetched ticks `steps`: once for each index of its table, before the first answer, and
+/// then once for each SELECT whose plan reads it; EXPLAIN fetches none. Comparisons of keys in seeks
+/// and of characters for LIKE tick `work`.
 ///
 /// The words are a script, or a catalog and a script. The catalog is opened first, then the script,
 /// then the files of each declared collation and those of the tables, in the order of the catalog;
@@ -202,7 +203,8 @@ fn run_words<F: Files, S: Sink, W, L>(
 /// is refused ends the run with its line. The script is UTF-8. Its statements are answered in
 /// order, each by one call of the sink; a refused one is answered with its `ERROR` line, and the
 /// run goes on. Without a catalog there are no tables, the collations are the built-in ones, and the
-/// connection's is `utf8mb4_bin` (MySQL 8.0 manual, 10.8.5, 10.10.1 and 13.2.10).
+/// connection's is `utf8mb4_bin`. Indexes change no answer but that of EXPLAIN (MySQL 8.0 manual,
+/// 8.2.1.2, 10.8.5, 10.10.1 and 13.2.10).
 pub fn run<F: Files, S: Sink, W, L>(
     alloc: Global,
     words: &[Text],
@@ -224,8 +226,9 @@ pub fn run<F: Files, S: Sink, W, L>(
     ensures write { WriteCause result (S.faults out.old) (S.faults out.new) }
     ensures form { FitsWords (words_form words.now) result }
     ensures kept { F.contents files.new ≡ F.contents files.old }
-    // The rows fetched are at most those that the statements may cost, on every exit; without LIKE
-    // no characters are compared for it.
+    // On every exit the rows fetched are at most the sum, over all tables, of rows times indexes, and
+    // what the plans of the typed statements read, EXPLAIN not counted; where no statement that is
+    // answered with rows has LIKE, the comparisons are at most those of the plans' seeks.
     ensures spent { IfSome (task (F.contents files.old) words.now) (λ asked.
         IsSpentOn asked steps.old steps.new work.old work.new) }
     ensures fetched { steps.old ≤ steps.new }

@@ -1,7 +1,7 @@
 ghost use Rattle.std.specs.Prelude.{◌≡◌, ◌≤◌, ◌<◌, ◌^◌, ℕ, [], IfOk, IfSome, OnOk, length};
 ghost use Rattle.mc_base.specs.FileOutcome.{FileCause, HasOutcome, IsRefusedAs};
 ghost use Rattle.mc_catalog.specs.Lawful.{IsLawful, IsLawfulTable};
-ghost use Rattle.mc_exec.specs.Stored.{AreRowsOf, AreTablesOf};
+ghost use Rattle.mc_gather.specs.Tables.{AreRowsOf, AreTablesOf};
 ghost use Rattle.mycoll.specs.Tables.{
   rows_fault_name,
   rows_refusal,

@@ -3,8 +3,9 @@ use crate::status::Status;
 use mc_base::{List, MemFiles, MemSink, NoMemory, Steps, Text};
 use std::alloc::Global;
 
+/// Marks the counters of a run.
 #[derive(Drop)]
-struct Mark;
+pub struct Mark;
 
 /// A run over one file in memory: its words, the file's name and content, the calls of the files
 /// and of the sink that fail, and how it ends with what is written.

@@ -1,14 +1,18 @@
 ghost use Rattle.std.specs.Prelude.{◌≡◌, IfOk};
 
 use crate::catalog_tests::file;
+use crate::run::run;
 use crate::status::Status;
-use crate::tests::{status_of, words_of};
-use mc_base::{List, MemFiles, MemSink, NoMemory};
+use crate::tests::{Mark, status_of, words_of};
+use mc_base::{List, MemFiles, MemSink, NoMemory, Steps, Text};
 use std::alloc::Global;
 
 // Excerpts with few characters, and no copy of a published table.
 
-pub(crate) const CATALOG: &[u8] = b"collation utf8mb4_0900_ai_ci utf8mb4 uca900_ai_ci k9.txt
+/// The lines of the catalog in parts, each with the index line that stands behind it.
+const CATALOG: [(&[u8], &[u8]); 4] = [
+    (
+        b"collation utf8mb4_0900_ai_ci utf8mb4 uca900_ai_ci k9.txt
 collation utf8mb4_0900_as_cs utf8mb4 uca900_as_cs k9.txt
 collation utf8mb4_unicode_ci utf8mb4 uca400 k4.txt
 collation ucs2_unicode_ci ucs2 uca400 k4.txt
@@ -20,8 +24,11 @@ connection utf8mb4_0900_ai_ci
 table p p.csv
 column id bigint
 column name varchar 20 utf8mb4_0900_ai_ci
-index name10 name 10
-table m m.csv
+",
+        b"index name10 name 10\n",
+    ),
+    (
+        b"table m m.csv
 column a varchar 10 latin1_swedish_ci
 column b varchar 10 latin1_german1_ci
 column c varchar 10 ascii_bin
@@ -30,14 +37,18 @@ column e varchar 10 utf16_bin
 column f varchar 10 utf8mb4_unicode_ci
 table s s.csv
 column name varchar 8 utf8mb4_unicode_ci
-index s1 name 1
-table n n.csv
+",
+        b"index s1 name 1\n",
+    ),
+    (
+        b"table n n.csv
 column id bigint
 column name varchar 8 utf8mb4_bin
-index nn name
-table z z.csv
-column name varchar 8 utf8mb4_bin
-";
+",
+        b"index nn name\n",
+    ),
+    (b"table z z.csv\ncolumn name varchar 8 utf8mb4_bin\n", b""),
+];
 
 pub(crate) const K9: &[u8] = b"@version 9.0.0
 @implicitweights 17000..18AFF; FB00
@@ -91,10 +102,27 @@ const S: &[u8] = b"a\t\na\na  \t\nb\n\xc3\x9f\nss\ns\n";
 
 const N: &[u8] = b"1,y\n0,x\n";
 
-/// The files of a run over all tables: its script, and the rows of `m`.
-fn all_files(alloc: Global, script: &[u8], mixed: &[u8]) -> Result<MemFiles, NoMemory> {
+/// The catalog of all tables, with their indexes or without.
+fn catalog_of(alloc: Global, indexed: bool) -> Result<Text, NoMemory> {
+    let mut text = Text::new(alloc);
+    for (lines, index) in &CATALOG {
+        text.extend_from_slice(lines)?;
+        if indexed {
+            text.extend_from_slice(index)?;
+        }
+    }
+    Ok(text)
+}
+
+/// The files of a run over all tables: its catalog and script, and the rows of `m`.
+fn all_files(
+    alloc: Global,
+    catalog: &[u8],
+    script: &[u8],
+    mixed: &[u8],
+) -> Result<MemFiles, NoMemory> {
     let mut files = List::new(alloc);
-    files.push(file(alloc, b"cat.txt", CATALOG)?)?;
+    files.push(file(alloc, b"cat.txt", catalog)?)?;
     files.push(file(alloc, b"s.sql", script)?)?;
     files.push(file(alloc, b"k9.txt", K9)?)?;
     files.push(file(alloc, b"k4.txt", K4)?)?;
@@ -119,8 +147,43 @@ pub(crate) fn ends_so(
     written: &[u8],
 ) -> Result<bool, NoMemory> {
     let words = words_of(alloc, &[b"cat.txt", b"s.sql"])?;
-    let mut files = all_files(alloc, script, mixed)?;
+    let catalog = catalog_of(alloc, true)?;
+    let mut files = all_files(alloc, catalog.as_slice(), script, mixed)?;
     let mut out = MemSink::new(alloc, List::new(alloc));
     let ends = status_of(alloc, words.as_slice(), &mut files, &mut out);
     Ok(ends == status && out.written().as_slice() == written)
+}
+
+/// How many rows a run over these files fetches, if it ends so. Comparisons tick `work`.
+pub(crate) fn rows_fetched(
+    alloc: Global,
+    files: &mut MemFiles,
+    status: Status,
+    written: &[u8],
+    work: &mut Steps<Mark>,
+) -> Result<Option<u64>, NoMemory> {
+    let words = words_of(alloc, &[b"cat.txt", b"s.sql"])?;
+    let mut out = MemSink::new(alloc, List::new(alloc));
+    let mut steps = Steps::start(Mark);
+    let ends = run(alloc, words.as_slice(), files, &mut out, work, &mut steps);
+    if ends == status && out.written().as_slice() == written {
+        Ok(Some(steps.count()))
+    } else {
+        Ok(None)
+    }
+}
+
+/// How many rows a run over all tables fetches, with their indexes or without, if it ends so.
+/// Comparisons tick `work`.
+pub(crate) fn rows_fetched_of_all(
+    alloc: Global,
+    indexed: bool,
+    script: &[u8],
+    status: Status,
+    written: &[u8],
+    work: &mut Steps<Mark>,
+) -> Result<Option<u64>, NoMemory> {
+    let catalog = catalog_of(alloc, indexed)?;
+    let mut files = all_files(alloc, catalog.as_slice(), script, M)?;
+    rows_fetched(alloc, &mut files, status, written, work)
 }

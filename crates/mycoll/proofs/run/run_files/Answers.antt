@@ -19,4 +19,4 @@ pub returns-in-Ok-clause-spent : goal.returns-in-Ok-clause-spent
 returns-in-Ok-clause-spent g c =
     script_spent (g.F.Files.contents c.args.files.now) _ (accepted_of (c.in-Ok.opened, c.in-Ok.rows))
     c.args.steps.now c.answer_opened.new.steps c.args.work.now c.answer_opened.new.work
-    c.in-Ok.ensures.told c.answer_opened.ensures.within
+    c.in-Ok.ensures.told c.answer_opened.ensures.spent

@@ -4,7 +4,7 @@ use Rattle.std.specs.List.{AllZip}
 use Rattle.mc_base.specs.FileOutcome.{HasOutcome}
 use Rattle.mc_book.specs.BookOutcome.{behind_outcome}
 use Rattle.mc_catalog.specs.declared.catalog.TableDecl.{TableDecl}
-use Rattle.mc_exec.specs.Stored.{AreRowsOf}
+use Rattle.mc_gather.specs.Tables.{AreRowsOf}
 use Rattle.mycoll.specs.Tables.{table_rows, tables_outcome}
 use Rattle.mycoll.specs.World.{Rows}
 use Rattle.mycoll.proofs.TableSteps.{more_rows, none_told, one_more_table, told_both}

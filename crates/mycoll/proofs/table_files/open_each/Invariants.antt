@@ -2,7 +2,7 @@
 use Rattle.std.proofs.Common.{◌≡◌, ◌≤◌, IfSome, drop, map, take}
 use Rattle.std.specs.List.{AllZip}
 use Rattle.mc_book.specs.BookOutcome.{behind_outcome}
-use Rattle.mc_exec.specs.Stored.{AreRowsOf}
+use Rattle.mc_gather.specs.Tables.{AreRowsOf}
 use Rattle.mycoll.specs.Tables.{table_rows, tables_outcome}
 use Rattle.mycoll.proofs.table_files.open_each.Given as goal
 
