@@ -1,5 +1,5 @@
 #!/bin/bash
-# A table of names for bench/scan.sh and bench/group.sh, which source this file: `w.csv` with an id and
+# A table of names for bench/scan.sh, group.sh and index.sh, which source this file: `w.csv` with an id and
 # a name of 1 to 8 characters in each row, drawn from ten: a, b, c, h, s, ß, space, TAB, C, U+00AD; a
 # catalog with that table under a collation of kind uca400, over a table of elements for these ten
 # that is made here; and, where MariaDB is on the machine (mariadbd and mariadb), a server of the

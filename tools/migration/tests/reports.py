@@ -140,13 +140,13 @@ class Answers(InRoom):
         (self.room / "d.sql").write_text(dump)
         return self.run_words("d.sql", *PADS, "--mycoll", program)
 
-    def test_statements_that_are_not_built(self) -> None:
+    def test_statements_that_are_refused(self) -> None:
         columns = "`a` varchar(9) PRIMARY KEY, `b` text, KEY `b` (`b`(5))"
         dump = table(columns, "('x','y'),('X',NULL)")
         report = """
 table t: 2 rows
-  not checked: primary key (a): mycoll: ERROR 9099: not built yet
-  not checked: column b: mycoll: ERROR 9099: not built yet
+  not checked: primary key (a): mycoll: ERROR 9004: more than 2048 tokens
+  not checked: column b: mycoll: ERROR 9004: more than 2048 tokens
   primary key (a): = 'x' reads 2 of 2 rows, 1 interval
   index b (b(5)): = 'y' reads 1 of 2 rows, 1 interval
 
@@ -154,7 +154,7 @@ summary: tables=1 keys=0 keys_broken=0 columns=0 columns_changed=0 not_checked=2
 """
         self.expect(self.check(dump, refuses="GROUP BY"), report, 2)
         run = self.check(dump, refuses="EXPLAIN")
-        said = "  not checked: index b (b(5)) for =: mycoll: ERROR 9099: not built yet\n"
+        said = "  not checked: index b (b(5)) for =: mycoll: ERROR 9004: more than 2048 tokens\n"
         self.assertIn(said, run.printed)
         self.assertIn("keys=1 keys_broken=1 columns=1 columns_changed=0 not_checked=2", run.printed)
 

@@ -4,7 +4,7 @@
 It answers the forms of statements that the tool writes and no others, by a plain reading of weight
 files: element tables at their first level alone. Indexes that a plan uses are over whole columns,
 or over first characters that weigh one by one. The variable STAND_IN_REFUSES holds words; a
-statement that has one of them is answered as not built yet."""
+statement that has one of them is refused."""
 
 import csv
 import os
@@ -206,12 +206,12 @@ def main(words: list[str]) -> int:
     except Refused as refused:
         print(refused)
         return 3
-    unbuilt = [word for word in os.environ.get("STAND_IN_REFUSES", "").split(",") if word]
+    refused = [word for word in os.environ.get("STAND_IN_REFUSES", "").split(",") if word]
     status = 0
     for statement in Path(words[1]).read_text(encoding="utf-8").split(";\n")[:-1]:
         lines = answer(statement, catalog)
-        if any(word in statement for word in unbuilt):
-            lines = [["ERROR 9099: not built yet"]]
+        if any(word in statement for word in refused):
+            lines = [["ERROR 9004: more than 2048 tokens"]]
         status |= lines[0][0].startswith("ERROR")
         print("\n".join("\t".join(line) for line in lines))
     return status
