@@ -1,5 +1,6 @@
 -- What a key keeps of a list: all of it but the spaces at its end.
-use Rattle.std.proofs.Common.{◌≡◌, ◌≢◌, ℕ, zero, suc, ◌<◌, ◌≤◌, ◌-◌, if◌then◌else◌, List, [], ◌∷◌, take, length, slice_index_or, refl, sym, ap, ◌∙◌, ⊎_elim, arith}
+use Rattle.std.proofs.Common.{◌≡◌, ◌≢◌, ℕ, zero, suc, ◌<◌, ◌≤◌, ◌-◌, if◌then◌else◌, List, [], ◌∷◌, ◌+◌, ◌++◌, drop, take, take_all, length, length-drop, slice_index_or, refl, sym, ap, ◌∙◌, ⊎_elim, arith}
+use Rattle.std.proofs.Math.Seq.{drop-append_seam, take-append-add}
 use Rattle.std.proofs.lemmas.Bool.Decides.{eqb_tells}
 use Rattle.mc_order.specs.declared.pad.Pad.{Pad}
 use Rattle.mc_order.specs.declared.pad.Pad.TheVariants.{PadSpace, NoPad}
@@ -83,3 +84,20 @@ one_space_less space (suc k) list some h e w =
     ap (λ n. without_spaces space (take n list)) less
     ∙ sym (without_spaces_space space k list (omega arith)
     (sym (ap (λ n. slice_index_or list n 0) less) ∙ e)) ∙ w
+
+-- Behind other weights a list is kept as it is alone.
+pub kept_behind : (pad other : Pad) (space more start len : ℕ) (old list now new : List ℕ) →
+    other ≡ pad → more ≡ space → start ≡ length old → now ≡ old ++ list →
+    take len (take (length now - start) (drop start now))
+    ≡ kept_list other more (take (length now - start) (drop start now)) →
+    new ≡ take (start + len) now → new ≡ old ++ kept_list pad space list
+kept_behind pad other space more start len old list now new is_pad is_space is_start is_now kept
+    is_new =
+    let rest : take (length now - start) (drop start now) ≡ list =
+    take_all (length now - start) (drop start now) (omega (arith, length-drop start now))
+    ∙ ap (λ n. drop n now) is_start ∙ ap (drop (length old)) is_now ∙ drop-append_seam old list in
+    is_new ∙ ap (λ n. take (n + len) now) is_start ∙ ap (take (length old + len)) is_now
+    ∙ take-append-add old list len
+    ∙ ap (λ l. old ++ l)
+    (ap (take len) (sym rest) ∙ kept ∙ ap (kept_list other more) rest
+    ∙ ap (λ p. kept_list p more list) is_pad ∙ ap (λ s. kept_list pad s list) is_space)

@@ -3,3 +3,4 @@ pub mod Alike
 pub mod Copies
 pub mod Fitted
 pub mod WeightBytes
+pub mod Fronts

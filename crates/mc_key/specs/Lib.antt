@@ -1,3 +1,4 @@
 pub mod Keys
+pub mod Fronts
 pub mod WeightString
 pub mod Laws

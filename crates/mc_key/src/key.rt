@@ -2,7 +2,7 @@ ghost use Rattle.mc_charset.specs.Chars.{IsWellFormed, chars};
 ghost use Rattle.mc_key.specs.Keys.{IsKept, kept_list, without_spaces};
 ghost use Rattle.mc_order.specs.Meaning.{flat_list, first_chars};
 ghost use Rattle.mc_order.specs.Order.{list_order};
-ghost use Rattle.std.specs.Prelude.{◌≡◌, IfOk, take};
+ghost use Rattle.std.specs.Prelude.{◌≡◌, ◌≤◌, ◌++◌, IfOk, OnOk, OnErr, length, take};
 
 use mc_base::{NoMemory, Weights};
 use mc_order::{Collation, Pad, compare_lists};
@@ -51,6 +51,21 @@ pub fn make_key<C: Collation>(
     Ok(key_of(weights, collation.pad(), collation.space()))
 }
 
+/// Appends what the key of a text keeps, so that the keys of many texts stand in one buffer. Without
+/// memory `out` stays as it was.
+pub fn put_key<C: Collation>(collation: &C, text: &[u8], out: &mut Weights) -> Result<(), NoMemory>
+    requires { IsWellFormed (C.meaning collation.now).charset text.now }
+    ensures ok { let m = C.meaning collation.now in OnOk result
+        (out.new ≡ out.old ++ kept_list m.pad m.space (flat_list m (chars m.charset text.now))) }
+    ensures err { OnErr result (out.new ≡ out.old) }
+{
+    let start = out.len();
+    collation.put_list(text, None, out)?;
+    let kept = kept_len(&out.as_slice()[start..], collation.pad(), collation.space());
+    out.truncate(start + kept);
+    Ok(())
+}
+
 /// The key of a list of weights.
 #[tactic(auto, using(crate::proofs::Kept::kept_again))]
 fn key_of(list: Weights, pad: Pad, space: u32) -> Key
@@ -70,7 +85,8 @@ fn key_of(list: Weights, pad: Pad, space: u32) -> Key
 
 /// How many weights of a list are kept.
 fn kept_len(list: &[u32], pad: Pad, space: u32) -> usize
-    ensures { take result list.now ≡ kept_list pad space list.now }
+    ensures kept { take result list.now ≡ kept_list pad space list.now }
+    ensures within { result ≤ length list.now }
 {
     match pad {
         Pad::NoPad => list.len(),
@@ -81,7 +97,8 @@ fn kept_len(list: &[u32], pad: Pad, space: u32) -> usize
 /// How many weights of a list stand before the spaces at its end.
 #[tactic(auto, using(crate::proofs::Kept::steps))]
 fn len_without_spaces(list: &[u32], space: u32) -> usize
-    ensures { take result list.now ≡ without_spaces space list.now }
+    ensures kept { take result list.now ≡ without_spaces space list.now }
+    ensures within { result ≤ length list.now }
 {
     let mut len = list.len();
     while len > 0 {

@@ -3,7 +3,10 @@ ghost use Rattle.std.specs.Prelude.{◌≡◌, ◌≤◌, IfOk};
 
 use mc_base::{NoMemory, Steps, Weights};
 use mc_charset::{CollId, is_well_formed};
-use mc_key::{Bound, TOP, compare_bound, compare_key, key_laws, make_bound, make_key};
+use mc_key::{
+    Bound, TOP, compare_bound, compare_key, compare_with_fronts, front_of, key_laws, make_bound,
+    make_key, put_key,
+};
 use mc_order::{BinCollation, Collation, Pad, collation_laws};
 use std::alloc::Global;
 use std::cmp::Ordering;
@@ -59,4 +62,49 @@ fn spaces_at_the_end_decide_nothing(rt: HostRuntime) {
 #[test]
 fn a_bound_stands_behind_what_begins_like_it(rt: HostRuntime) {
     assert!(rt; bound_order(rt.alloc(), b"ab") == Ok((Ordering::Less, 1)));
+}
+
+/// The order of two unpadded lists, by their fronts first.
+fn front_order(list: &[u32], other: &[u32]) -> Ordering {
+    let front = front_of(list, Pad::NoPad, 0);
+    let other_front = front_of(other, Pad::NoPad, 0);
+    compare_with_fronts(front, list, other_front, other, Pad::NoPad, 0)
+}
+
+#[test]
+fn fronts_have_the_first_eight_weights(rt: HostRuntime) {
+    assert!(rt; front_of(&[0x61, 0x62], Pad::NoPad, 0) == 0x0061_0062 << 96);
+    let padded = 0x0061_0062_0020_0020_0020_0020_0020_0020;
+    assert!(rt; front_of(&[0x61, 0x62], Pad::PadSpace, 0x20) == padded);
+    let eight = 0x0001_0002_0003_0004_0005_0006_0007_0008;
+    assert!(rt; front_of(&[1, 2, 3, 4, 5, 6, 7, 8, 9], Pad::NoPad, 0) == eight);
+}
+
+#[test]
+fn what_a_great_weight_hides_the_lists_decide(rt: HostRuntime) {
+    assert!(rt; front_of(&[0x61, 70_000, 0x62], Pad::NoPad, 0) == 0x0061_FFFF << 96);
+    assert!(rt; front_order(&[0x61, 70_000], &[0x61, 70_001]) == Ordering::Less);
+    assert!(rt;
+        front_order(&[0x61], &[0x61, 0]) == Ordering::Less,
+        "a tie of an end and 0"
+    );
+}
+
+/// The key of a text under latin1_bin, behind the weight of a space.
+fn behind_a_space(alloc: Global, text: &[u8]) -> Result<Weights, NoMemory> {
+    let collation = BinCollation::new(CollId(1));
+    let mut keys = Weights::new(alloc);
+    keys.push(collation.space())?;
+    if is_well_formed(collation.charset(), text) {
+        put_key(&collation, text, &mut keys)?;
+    }
+    Ok(keys)
+}
+
+#[test]
+fn a_key_leaves_what_stands_in_front_of_it(rt: HostRuntime) {
+    let none = behind_a_space(rt.alloc(), b"  ");
+    assert!(rt; matches!(&none, Ok(keys) if keys.len() == 1));
+    let one = behind_a_space(rt.alloc(), b"a ");
+    assert!(rt; matches!(&one, Ok(keys) if keys.len() == 2));
 }
