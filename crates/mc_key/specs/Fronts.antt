@@ -25,7 +25,8 @@ with_digits n weight digits =
 unfoldable pub first_digits : (n : ℕ) → Pad → ℕ → List ℕ → ℕ
 first_digits zero pad space list = 0
 first_digits (suc n) pad space list =
-    with_digits n (slice_index_or list 0 (filler pad space)) (first_digits n pad space (drop 1 list))
+    with_digits n (slice_index_or list 0 (filler pad space))
+    (first_digits n pad space (drop 1 list))
 
 -- the front of a list: its first eight weights
 abbrev pub front_of : Pad → ℕ → List ℕ → ℕ

@@ -51,8 +51,8 @@ pub fn make_key<C: Collation>(
     Ok(key_of(weights, collation.pad(), collation.space()))
 }
 
-/// Appends what the key of a text keeps, so that the keys of many texts stand in one buffer. Without
-/// memory `out` stays as it was.
+/// Appends what the key of a text keeps, so that the keys of many texts stand in one buffer.
+/// Without memory `out` stays as it was.
 pub fn put_key<C: Collation>(collation: &C, text: &[u8], out: &mut Weights) -> Result<(), NoMemory>
     requires { IsWellFormed (C.meaning collation.now).charset text.now }
     ensures ok { let m = C.meaning collation.now in OnOk result
