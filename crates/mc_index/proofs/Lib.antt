@@ -6,3 +6,4 @@ pub mod OneOrder
 pub mod Between
 pub mod Adding
 mod StandardFacts
+pub mod FrontsFirst

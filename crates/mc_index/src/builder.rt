@@ -3,7 +3,8 @@ ghost use Rattle.std.specs.List.{All};
 ghost use Rattle.std.specs.Prelude.{◌≡◌, ◌≢◌, ◌∷◌, ◌++◌, [], IfOk, OnOk, OnErr};
 
 use crate::Index;
-use crate::entry::{Entry, sort_entries};
+use crate::entry::Entry;
+use crate::sorting::sort_entries;
 use mc_base::NoMemory;
 use mc_key::Key;
 use mc_order::{Pad, order_laws};
@@ -56,7 +57,7 @@ impl IndexBuilder {
             ≡ self.old.entries ++ record { weights = key.weights; row = row } ∷ []) }
         ensures err { OnErr result (self.new.entries ≡ self.old.entries) }
     {
-        self.entries.push(Entry { key, row })?;
+        self.entries.push(Entry::new(row, key))?;
         Ok(())
     }
 

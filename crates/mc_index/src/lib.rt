@@ -2,12 +2,12 @@
 //! 8.0 manual, 8.3.1.
 //!
 //! An entry is what the key of a row keeps, and the row's number (`specs/Entries.antt`). Entries
-//! are gathered in any order, sorted once, and then looked for by halving: `specs/Places.antt` says
-//! where a bound stands, and `specs/Digits.antt` how few comparisons that takes. The entries of an
-//! interval stand side by side (`specs/Laws.antt`).
+//! are gathered in any order, sorted once, by their keys' fronts first, and then looked for by
+//! halving: `specs/Places.antt` says where a bound stands, and `specs/Digits.antt` how few
+//! comparisons that takes. The entries of an interval stand side by side (`specs/Laws.antt`).
 //!
-//! Read the modules in this order: `side`; `entry`, `builder`, `index`; `halving`; and `laws`,
-//! which other crates prove with.
+//! Read the modules in this order: `side`; `entry`, `sorting`, `builder`, `index`; `halving`; and
+//! `laws`, which other crates prove with.
 //!
 //! `index.seek(&bound, Side::Before, &mut work)` is the place of the first entry that is not below
 //! the bound.
@@ -19,6 +19,7 @@ mod halving;
 mod index;
 mod laws;
 mod side;
+mod sorting;
 
 pub use builder::IndexBuilder;
 pub use index::Index;
