@@ -47,8 +47,20 @@ pub fn make_key<C: Collation>(
     ensures space { IfOk result (λ key. key.space ≡ (C.meaning collation.now).space) }
 {
     let mut weights = Weights::new(alloc);
+    weights.reserve(likely_len(text, first))?;
     collation.put_list(text, first, &mut weights)?;
     Ok(key_of(weights, collation.pad(), collation.space()))
+}
+
+/// For how many weights room is made at once: one for each byte, or for each of the first
+/// characters.
+fn likely_len(text: &[u8], first: Option<u32>) -> usize
+    ensures { result ≤ length text.now }
+{
+    match first {
+        Some(count) => text.len().min(count as usize),
+        None => text.len(),
+    }
 }
 
 /// Appends what the key of a text keeps, so that the keys of many texts stand in one buffer.
