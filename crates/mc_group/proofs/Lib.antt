@@ -1,6 +1,7 @@
 pub mod Lists
 pub mod Cells
 pub mod Totals
+pub mod FrontsFirst
 pub mod Sorting
 pub mod Places
 pub mod AllNull

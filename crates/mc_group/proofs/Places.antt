@@ -17,7 +17,8 @@ use Rattle.mc_values.specs.declared.value.Value.{Value}
 use Rattle.mc_group.specs.declared.column.Column.{Column}
 use Rattle.mc_group.specs.declared.entry.Entry.{Entry}
 use Rattle.mc_group.specs.declared.kind.KeyKind.{KeyKind}
-use Rattle.mc_group.specs.Cells.{cells_of, cells_order, columns_of, entry_of, entry_order}
+use Rattle.mc_group.specs.Cells.{cells_of, cells_order, columns_of, entry_order}
+use Rattle.mc_group.specs.Fronts.{entry_of}
 use Rattle.mc_group.specs.Order.{AreSorted, place_order, row_order}
 use Rattle.mc_group.proofs.Cells.{row_order-is}
 use Rattle.mc_group.proofs.Sorting.{places_ascend}
@@ -45,14 +46,14 @@ IsEntry : (ℕ → Meaning) → List KeyKind → List (List Value) → Entry →
 IsEntry meaning kinds rows entry =
     entry.cells ≡ cells_of meaning kinds (get_or rows entry.place [])
 
-module _ (meaning : ℕ → Meaning) (kinds : List KeyKind) (desc : List Bool)
+module _ (fronts : List Column) (meaning : ℕ → Meaning) (kinds : List KeyKind) (desc : List Bool)
     (rows : List (List Value)) where
   all_entries : (n : ℕ) → All (IsEntry meaning kinds rows)
-      (map (entry_of meaning kinds rows) (range_with_len 0 n))
+      (map (entry_of fronts meaning kinds rows) (range_with_len 0 n))
   unfolding IsEntry
   all_entries n k d within =
-      let at = get_or-map-range_with_len (entry_of meaning kinds rows) 0 n k k d
-      (omega (arith, length-map-range_with_len (entry_of meaning kinds rows) 0 n))
+      let at = get_or-map-range_with_len (entry_of fronts meaning kinds rows) 0 n k k d
+      (omega (arith, length-map-range_with_len (entry_of fronts meaning kinds rows) 0 n))
       (omega arith) in
       subst (λ (e : Entry). e.cells ≡ cells_of meaning kinds (get_or rows e.place [])) (sym at)
       refl
@@ -70,15 +71,16 @@ module _ (meaning : ℕ → Meaning) (kinds : List KeyKind) (desc : List Bool)
 
   pub places_sorted : ((pad : Pad) (space : ℕ) → IsTotalOrder (list_order pad space)) →
       (entries : List Entry) →
-      IsPermutation (map (entry_of meaning kinds rows) (range_with_len 0 (length rows))) entries →
+      IsPermutation (map (entry_of fronts meaning kinds rows) (range_with_len 0 (length rows)))
+      entries →
       IsSorted (entry_order (columns_of meaning kinds desc)) entries →
       AreSorted (row_order meaning kinds desc) rows (map (λ (e : Entry). e.place) entries)
   places_sorted lists entries permutation sorted =
       let n = length rows in
-      let old = map (entry_of meaning kinds rows) (range_with_len 0 n) in
+      let old = map (entry_of fronts meaning kinds rows) (range_with_len 0 n) in
       let all : IsPermutation (range_with_len 0 n) (map (λ (e : Entry). e.place) entries) =
       subst (λ (l : List ℕ). IsPermutation l (map (λ (e : Entry). e.place) entries))
-      (map-places (entry_of meaning kinds rows) (λ i. refl) (range_with_len 0 n))
+      (map-places (entry_of fronts meaning kinds rows) (λ i. refl) (range_with_len 0 n))
       (IsPermutation-map (λ (e : Entry). e.place) old entries permutation) in
       let each = All-permutation (IsEntry meaning kinds rows) old entries permutation
       (all_entries n) in
@@ -99,7 +101,7 @@ module _ (meaning : ℕ → Meaning) (kinds : List KeyKind) (desc : List Bool)
   pub sorted_places : ((pad : Pad) (space : ℕ) → IsTotalOrder (list_order pad space)) →
       (columns sliced : List Column) (old new listed : List Entry) (places : List ℕ) →
       columns ≡ columns_of meaning kinds desc → sliced ≡ columns →
-      old ≡ map (entry_of meaning kinds rows) (range_with_len 0 (length rows)) →
+      old ≡ map (entry_of fronts meaning kinds rows) (range_with_len 0 (length rows)) →
       IsPermutation old new → IsSorted (entry_order sliced) new → listed ≡ new →
       places ≡ map (λ (e : Entry). e.place) listed →
       AreSorted (row_order meaning kinds desc) rows places

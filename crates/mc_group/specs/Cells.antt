@@ -87,8 +87,3 @@ cells_order (column ∷ columns) one other =
 abbrev pub entry_order : List Column → Entry → Entry → Ordering
 entry_order columns =
     then_cmp (on (λ entry. entry.cells) (cells_order columns)) (on (λ entry. entry.place) nat_cmp)
-
--- What is sorted for the row at a place.
-abbrev pub entry_of : (ℕ → Meaning) → List KeyKind → List (List Value) → ℕ → Entry
-entry_of meaning kinds rows place =
-    record { cells = cells_of meaning kinds (slice_index_or rows place []); place = place }

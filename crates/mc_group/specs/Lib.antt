@@ -4,5 +4,6 @@ pub mod Groups
 pub mod Extremes
 pub mod Sums
 pub mod Cells
+pub mod Fronts
 pub mod Frames
 pub mod Laws

@@ -1,4 +1,5 @@
 ghost use Rattle.mc_group.specs.Cells.{cell_of, cell_order, cells_of, cells_order, entry_order};
+ghost use Rattle.mc_group.specs.Fronts.{fronts_first};
 ghost use Rattle.mc_group.specs.Kinds.{IsInBook, IsKeyRow, IsOfKind};
 ghost use Rattle.mc_values.specs.declared.value.Value.TheVariants as value;
 ghost use Rattle.std.specs.List.{All};
@@ -14,9 +15,10 @@ use mc_values::Value;
 use std::alloc::Global;
 use std::cmp::Ordering;
 
-/// A row's cells, and its place among the rows.
+/// A row's cells with their front, and its place among the rows.
 #[derive(Drop)]
 pub(crate) struct Entry {
+    pub(crate) front: u128,
     pub(crate) cells: List<Cell>,
     pub(crate) place: u32,
 }
@@ -87,11 +89,22 @@ fn cells_order(columns: &[Column], one: &[Cell], other: &[Cell]) -> Ordering
 }
 
 /// The order of two entries: that of their cells, and of their places where those are equal.
-pub(crate) fn entry_order(columns: &[Column], one: &Entry, other: &Entry) -> Ordering
+fn entry_order(columns: &[Column], one: &Entry, other: &Entry) -> Ordering
     ensures { result ≡ entry_order columns.now one.now other.now }
 {
     match cells_order(columns, one.cells.as_slice(), other.cells.as_slice()) {
         Ordering::Equal => one.place.cmp(&other.place),
+        differs => differs,
+    }
+}
+
+/// The order of two entries, by their fronts where those differ: that is all one where both have
+/// the fronts of their cells.
+pub(crate) fn fronts_first(columns: &[Column], one: &Entry, other: &Entry) -> Ordering
+    ensures { result ≡ fronts_first columns.now one.now other.now }
+{
+    match one.front.cmp(&other.front) {
+        Ordering::Equal => entry_order(columns, one, other),
         differs => differs,
     }
 }

@@ -10,7 +10,7 @@
 //!
 //! `group_rows` gives the number of each row's group, in one pass over the rows.
 //!
-//! Read the modules in this order: `kind`; `column`, `cell`, `entry`, `order`; `frames`,
+//! Read the modules in this order: `kind`; `column`, `cell`, `front`, `entry`, `order`; `frames`,
 //! `grouping`; `values`, `extremes`; `sums`; and `laws`, which other crates prove with.
 #![tactic(auto)]
 
@@ -19,6 +19,7 @@ mod column;
 mod entry;
 mod extremes;
 mod frames;
+mod front;
 mod grouping;
 mod kind;
 mod laws;

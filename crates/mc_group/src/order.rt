@@ -1,4 +1,5 @@
-ghost use Rattle.mc_group.specs.Cells.{entry_of, entry_order};
+ghost use Rattle.mc_group.specs.Cells.{entry_order};
+ghost use Rattle.mc_group.specs.Fronts.{AreFronted, entry_of};
 ghost use Rattle.mc_group.specs.Kinds.{IsInBook, IsKeyRow};
 ghost use Rattle.mc_group.specs.Order.{AreSorted, row_order};
 ghost use Rattle.std.specs.List.{All, range_with_len};
@@ -6,9 +7,11 @@ ghost use Rattle.std.specs.List.Sorted.{IsPermutation, IsSorted};
 ghost use Rattle.std.specs.Prelude.{◌≡◌, ◌<◌, IfOk, length, map};
 
 use crate::column::{Column, columns_of};
-use crate::entry::{Entry, cells_of, entry_order};
+use crate::entry::{Entry, cells_of, fronts_first};
+use crate::front::row_front;
 use crate::kind::KeyKind;
 use mc_base::{List, NoMemory};
+use mc_key::front_law;
 use mc_order::{Book, order_laws};
 use mc_values::Row;
 use std::alloc::Global;
@@ -26,6 +29,7 @@ pub(crate) fn place_at(i: usize) -> Result<u32, NoMemory>
 /// What is sorted for the row at a place.
 fn entry_of<B: Book>(
     alloc: Global,
+    columns: &[Column],
     book: &B,
     kinds: &[KeyKind],
     keys: &[Row],
@@ -35,40 +39,48 @@ fn entry_of<B: Book>(
     requires key_rows { All (IsKeyRow (B.meaning book.now) kinds.now) keys.now }
     requires within { i < length keys.now }
     ensures { IfOk result
-        (λ entry. entry ≡ entry_of (B.meaning book.now) kinds.now keys.now i) }
+        (λ entry. entry ≡ entry_of columns.now (B.meaning book.now) kinds.now keys.now i) }
 {
     let place = place_at(i)?;
     let cells = cells_of(alloc, book, kinds, keys[i].as_slice())?;
-    Ok(Entry { cells, place })
+    Ok(Entry {
+        front: row_front(columns, cells.as_slice()),
+        cells,
+        place,
+    })
 }
 
 /// What is sorted for each row.
 fn entries_of<B: Book>(
     alloc: Global,
+    columns: &[Column],
     book: &B,
     kinds: &[KeyKind],
     keys: &[Row],
 ) -> Result<Vec<Entry>, NoMemory>
     requires in_book { All (IsInBook (B.count book.now)) kinds.now }
     requires key_rows { All (IsKeyRow (B.meaning book.now) kinds.now) keys.now }
-    ensures { let entry = entry_of (B.meaning book.now) kinds.now keys.now in IfOk result
+    ensures { let entry = entry_of columns.now (B.meaning book.now) kinds.now keys.now in
+        IfOk result
         (λ entries. entries.items ≡ map entry (range_with_len 0 (length keys.now))) }
 {
     let mut entries = Vec::new(alloc);
     entries.reserve(keys.len())?;
     for i in 0..keys.len() {
-        entries.push(entry_of(alloc, book, kinds, keys, i)?)?;
+        entries.push(entry_of(alloc, columns, book, kinds, keys, i)?)?;
     }
     Ok(entries)
 }
 
 /// Sorts entries by their cells, and by their places where those are equal.
 fn sort_entries(columns: &[Column], entries: &mut Vec<Entry>)
+    requires fronted { AreFronted columns.now entries.old.items }
     ensures permutation { IsPermutation entries.old.items entries.new.items }
     ensures sorted { IsSorted (entry_order columns.now) entries.new.items }
 {
     order_laws();
-    entries.sort_unstable_by(|one, other| entry_order(columns, one, other));
+    front_law();
+    entries.sort_unstable_by(|one, other| fronts_first(columns, one, other));
 }
 
 /// The places of entries.
@@ -98,7 +110,7 @@ fn sorted_places<B: Book>(
 {
     order_laws();
     let columns = columns_of(alloc, book, kinds, desc)?;
-    let mut entries = entries_of(alloc, book, kinds, keys)?;
+    let mut entries = entries_of(alloc, columns.as_slice(), book, kinds, keys)?;
     sort_entries(columns.as_slice(), &mut entries);
     let places = places_of(alloc, entries.as_slice())?;
     Ok(places)
