@@ -4,11 +4,13 @@ mod HeldLists
 mod HeldTexts
 mod HexAscii
 mod KeptConstants
+mod LentValues
 mod Loops
 mod NullCalls
 mod Pairs
 mod Parts
 mod Ranges
+mod ReadyForms
 mod Restated
 mod SoundFits
 mod Spelled

@@ -19,3 +19,4 @@ pub mod Shapes
 pub mod Walk
 pub mod Typed
 pub mod Restated
+pub mod Prepared

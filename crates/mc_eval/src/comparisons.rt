@@ -109,7 +109,7 @@ pub(crate) fn is_null(value: &Value) -> bool
 }
 
 /// Whether a comparison holds of sides in this order.
-fn holds(op: CmpOp, order: Ordering) -> bool
+pub(crate) fn holds(op: CmpOp, order: Ordering) -> bool
     ensures { result ≡ holds op order }
 {
     match op {

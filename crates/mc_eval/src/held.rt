@@ -7,14 +7,16 @@ use std::alloc::Global;
 
 /// The value of an operand: lent by the row or by the expression, or made.
 #[derive(Drop)]
-pub(crate) enum Held<'a> {
+pub enum Held<'a> {
+    /// A value of the row or of the expression.
     Lent(&'a Value),
+    /// A value of its own.
     Made(Value),
 }
 
 impl<'a> Held<'a> {
     /// The value.
-    pub(crate) fn get(&self) -> &Value
+    pub fn get(&self) -> &Value
         ensures { result.now ≡ held_value self.now }
     {
         match self {
@@ -24,7 +26,7 @@ impl<'a> Held<'a> {
     }
 
     /// The value, copied where it is lent.
-    pub(crate) fn into_value(self, alloc: Global) -> Result<Value, NoMemory>
+    pub fn into_value(self, alloc: Global) -> Result<Value, NoMemory>
         ensures { IfOk result (λ value. value ≡ held_value self.entry) }
     {
         match self {

@@ -1,7 +1,7 @@
 ghost use Rattle.mc_charset.specs.Chars.{IsWellFormed};
 ghost use Rattle.mc_convert.specs.Conversion.{converted_text};
 ghost use Rattle.mc_eval.specs.SetTexts.{set_text};
-ghost use Rattle.std.specs.Prelude.{◌≡◌, ◌<◌, ◌^◌, IfOk, length};
+ghost use Rattle.std.specs.Prelude.{◌≡◌, ◌<◌, ◌^◌, IfOk, IsTrue, length};
 
 use mc_base::{NoMemory, Text};
 use mc_charset::{Charset, bytes_law};
@@ -64,6 +64,17 @@ fn converted(alloc: Global, from: Charset, to: Charset, text: &Text) -> Result<T
     }
 }
 
+/// Whether a text has the same bytes in another set, as each text of its set has.
+pub(crate) fn stays(from: Charset, to: Charset, text: &Text) -> bool
+    requires { IsWellFormed from text.now }
+    ensures same { IsTrue result → converted_text from to text.now ≡ text.now }
+    ensures well_formed { IsTrue result → IsWellFormed to text.now }
+{
+    conversion_law();
+    bytes_law(text.as_slice());
+    keeps_bytes(from, to)
+}
+
 /// The text of an operand in the set of its operation.
 pub(crate) fn in_set<'a>(
     alloc: Global,
@@ -76,9 +87,7 @@ pub(crate) fn in_set<'a>(
     ensures well_formed { IfOk result (λ it. IsWellFormed to (set_text it)) }
     ensures below_4_gib { IfOk result (λ it. length (set_text it) < 2 ^ 32) }
 {
-    conversion_law();
-    bytes_law(text.as_slice());
-    if keeps_bytes(from, to) && text.len() < TOO_LONG {
+    if stays(from, to, text) && text.len() < TOO_LONG {
         return Ok(SetText::Lent(text));
     }
     Ok(SetText::Made(converted(alloc, from, to, text)?))

@@ -1,6 +1,3 @@
-use Rattle.std.proofs.Common.{subst}
-use Rattle.mc_charset.specs.Chars.{IsWellFormed}
-use Rattle.mc_charset.specs.declared.charset.Charset.TheVariants.{Binary}
 use Rattle.mc_eval.proofs.KeptConstants.{text_kept}
 use Rattle.mc_eval.proofs.constants.text_law.Goals as goal
 

@@ -1,13 +1,12 @@
 use Rattle.std.proofs.Common.{subst}
 use Rattle.mc_charset.specs.Chars.{IsWellFormed}
 use Rattle.mc_charset.specs.declared.charset.Charset.TheVariants.{Binary}
-use Rattle.mc_eval.proofs.texts.in_set.Goals as goal
+use Rattle.mc_eval.proofs.texts.stays.Goals as goal
 
-pub returns-then-len-lt-TOO_LONG-clause-well_formed :
-    goal.returns-then-len-lt-TOO_LONG-clause-well_formed
-returns-then-len-lt-TOO_LONG-clause-well_formed c =
+pub returns-clause-well_formed : goal.returns-clause-well_formed
+returns-clause-well_formed c = λ is.
     let text = c.args.text.now in
-    let kept = c.keeps_bytes.ensures.exactly.0 c.if-keeps_bytes.true text c.requires in
+    let kept = c.keeps_bytes.ensures.exactly.0 is text c.requires in
     let bytes : IsWellFormed Binary text =
     subst (IsWellFormed Binary) c.as_slice.ensures c.bytes_law.ensures.binary in
     subst (IsWellFormed c.args.to) kept
