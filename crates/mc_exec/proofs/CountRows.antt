@@ -2,19 +2,16 @@
 use Rattle.std.proofs.Common.{◌≡◌, ℕ, Bool, true, false, not, ◌&&◌, List, [], ◌∷◌, length, map}
 use Rattle.std.proofs.Common.{refl, ap, ◌∙◌, cond}
 use Rattle.std.proofs.lemmas.List.{length-map}
-use Rattle.std.specs.Cmp.{IsEquivalence}
 use Rattle.std.proofs.lemmas.List.Elements.{All-from_recursion, recursion_from_All}
 use Rattle.std.specs.List.{AllByRecursion, filter}
 use Rattle.std.specs.Prelude.{All}
-use Rattle.mc_group.specs.Groups.{firsts, group_numbers, same_row, same_value}
+use Rattle.mc_group.specs.Groups.{firsts, same_row, same_value}
 use Rattle.mc_group.specs.Kinds.{IsKeyRow, IsOfKind}
 use Rattle.mc_group.specs.Sums.{is_null}
 use Rattle.mc_group.specs.declared.kind.KeyKind.{KeyKind}
 use Rattle.mc_order.specs.Meaning.{Meaning}
 use Rattle.mc_values.specs.declared.value.Value.{Value}
 use Rattle.mc_exec.specs.Aggregates.{present}
-use Rattle.mc_exec.specs.Steps.{picked}
-use Rattle.mc_exec.proofs.Firsts.{picked_count}
 
 filter-map : {A B : Type 0} (f : A → B) (p : B → Bool) (xs : List A)
     → filter p (map f xs) ≡ map f (filter (λ x. p (f x)) xs)
@@ -41,18 +38,15 @@ one_value : (meaning : ℕ → Meaning) (of : KeyKind) (v w : Value)
 unfolding same_row
 one_value meaning of v w = and_true (same_value meaning of v w)
 
-pub class_count : (meaning : ℕ → Meaning) (of : KeyKind)
-    → IsEquivalence (same_row meaning (of ∷ [])) → (values : List Value) (numbers : List ℕ)
-    → numbers ≡ group_numbers (same_row meaning (of ∷ [])) (map (λ it. it ∷ []) values)
-    → length (picked 0 numbers numbers) ≡ length (firsts (same_value meaning of) values)
-class_count meaning of o values numbers e =
+pub class_count : (meaning : ℕ → Meaning) (of : KeyKind) (values : List Value)
+    → length (firsts (same_row meaning (of ∷ [])) (map (λ it. it ∷ []) values))
+    ≡ length (firsts (same_value meaning of) values)
+class_count meaning of values =
     let same = same_row meaning (of ∷ []) in
-    let rows = map (λ (it : Value). it ∷ []) values in
-    picked_count same o rows numbers e
-    ∙ (ap length (firsts-map (λ (it : Value). it ∷ []) same values)
+    ap length (firsts-map (λ (it : Value). it ∷ []) same values)
     ∙ (length-map (firsts (λ x y. same (x ∷ []) (y ∷ [])) values) (λ (it : Value). it ∷ [])
     ∙ ap (λ (s : Value → Value → Bool). length (firsts s values))
-    (λ i v w. one_value meaning of v w i)))
+    (λ i v w. one_value meaning of v w i))
 
 present_kind : (P : Value → Type 0) (values : List Value) → AllByRecursion P values
     → AllByRecursion P (present values)

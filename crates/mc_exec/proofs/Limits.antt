@@ -13,7 +13,8 @@ module _ {B : Type 0} (limit : Option (ℕ × ℕ)) where
   -- The members that are shown from a place on.
   window : ℕ → List B → List B
   window place [] = []
-  window place (y ∷ ys) = if is_shown limit place then y ∷ window (place + 1) ys else window (place + 1) ys
+  window place (y ∷ ys) =
+      if is_shown limit place then y ∷ window (place + 1) ys else window (place + 1) ys
 
   append_empty : (xs : List B) → xs ++ [] ≡ xs
   append_empty [] = refl
@@ -42,8 +43,10 @@ module _ {B : Type 0} (limit : Option (ℕ × ℕ)) where
     unfolding with_shown all_of window
     with_shown_is shown place [] = ap (λ l. Some l) (sym (append_empty shown))
     with_shown_is shown place (x ∷ xs) = elim (given x) as (λ o.
-        option_and_then (λ it. with_shown given limit (place + 1) (shown_with limit place shown it) xs) o
-        ≡ shown_behind shown place (option_and_then (λ it. option_map (λ l. it ∷ l) (all_of given xs)) o)) [
+        option_and_then
+        (λ it. with_shown given limit (place + 1) (shown_with limit place shown it) xs) o
+        ≡ shown_behind shown place
+        (option_and_then (λ it. option_map (λ l. it ∷ l) (all_of given xs)) o)) [
           | None ↦ refl
           | Some it ↦ with_shown_is (shown_with limit place shown it) (place + 1) xs
               ∙ step shown place it (all_of given xs)
@@ -52,7 +55,8 @@ module _ {B : Type 0} (limit : Option (ℕ × ℕ)) where
 take_none : {B : Type 0} (n : ℕ) (ys : List B) → n ≡ 0 → take n ys ≡ []
 take_none n ys e = ap (λ m. take m ys) e
 
-take_cons : {B : Type 0} (n m : ℕ) (y : B) (ys : List B) → n ≡ suc m → take n (y ∷ ys) ≡ y ∷ take m ys
+take_cons : {B : Type 0} (n m : ℕ) (y : B) (ys : List B) → n ≡ suc m
+    → take n (y ∷ ys) ≡ y ∷ take m ys
 take_cons n m y ys e = ap (λ k. take k (y ∷ ys)) e
 
 drop_cons : {B : Type 0} (n m : ℕ) (y : B) (ys : List B) → n ≡ suc m → drop n (y ∷ ys) ≡ drop m ys
@@ -81,7 +85,8 @@ module _ {B : Type 0} (limit : ℕ × ℕ) where
       → cut place (y ∷ ys) ≡ y ∷ cut (place + 1) ys
   within place y ys h k =
       ap (take (limit.1 - (place - limit.0))) (drop_none (limit.0 - place) (y ∷ ys) (omega arith))
-      ∙ (take_cons (limit.1 - (place - limit.0)) (limit.1 - (place + 1 - limit.0)) y ys (omega arith)
+      ∙ (take_cons (limit.1 - (place - limit.0)) (limit.1 - (place + 1 - limit.0)) y ys
+      (omega arith)
       ∙ ap (λ l. y ∷ take (limit.1 - (place + 1 - limit.0)) l)
       (sym (drop_none (limit.0 - (place + 1)) ys (omega arith))))
 
@@ -89,7 +94,8 @@ module _ {B : Type 0} (limit : ℕ × ℕ) where
       → cut place (y ∷ ys) ≡ cut (place + 1) ys
   past place y ys h k =
       take_none (limit.1 - (place - limit.0)) (drop (limit.0 - place) (y ∷ ys)) (omega arith)
-      ∙ sym (take_none (limit.1 - (place + 1 - limit.0)) (drop (limit.0 - (place + 1)) ys) (omega arith))
+      ∙ sym (take_none (limit.1 - (place + 1 - limit.0)) (drop (limit.0 - (place + 1)) ys)
+      (omega arith))
 
   here : (place : ℕ) (y : B) (ys more : List B) → more ≡ cut (place + 1) ys → (a b : Bool)
       → nat_le limit.0 place ≡ a → nat_lt (place - limit.0) limit.1 ≡ b
@@ -109,7 +115,8 @@ module _ {B : Type 0} (limit : ℕ × ℕ) where
   unfolding window
   window_cut place [] = sym (take_drop_empty _ _ [] refl)
   window_cut place (y ∷ ys) = here place y ys (window (Some limit) (place + 1) ys)
-      (window_cut (place + 1) ys) (nat_le limit.0 place) (nat_lt (place - limit.0) limit.1) refl refl
+      (window_cut (place + 1) ys) (nat_le limit.0 place) (nat_lt (place - limit.0) limit.1) refl
+      refl
 
   cut_start : (ys : List B) → cut 0 ys ≡ take limit.1 (drop limit.0 ys)
   cut_start ys =
@@ -122,7 +129,8 @@ unfolding window
 window_all place [] = refl
 window_all place (y ∷ ys) = ap (λ l. y ∷ l) (window_all (place + 1) ys)
 
-window_limited : {B : Type 0} (limit : Option (ℕ × ℕ)) (ys : List B) → window limit 0 ys ≡ limited limit ys
+window_limited : {B : Type 0} (limit : Option (ℕ × ℕ)) (ys : List B)
+    → window limit 0 ys ≡ limited limit ys
 window_limited None ys = window_all 0 ys
 window_limited (Some l) ys = window_cut l 0 ys ∙ cut_start l ys
 

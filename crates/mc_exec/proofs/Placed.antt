@@ -14,7 +14,8 @@ module _ {A B : Type 0} (given : A → Option B) (a : A) (b : B) where
   -- What the first gives and what the others give.
   parts : (x : A) (o : Option B) (p : Option (List B)) (items : List B)
       → option_and_then (λ first. option_map (λ others. first ∷ others) p) o ≡ Some items
-      → (first : B) × ((others : List B) × (o ≡ Some first) × (p ≡ Some others) × (items ≡ first ∷ others))
+      → (first : B) × ((others : List B) × (o ≡ Some first) × (p ≡ Some others)
+      × (items ≡ first ∷ others))
   parts x None p items e = absurd (cc)
   parts x (Some first) None items e = absurd (cc)
   parts x (Some first) (Some others) items e = (first, (others, refl, refl, cc))
@@ -28,7 +29,8 @@ module _ {A B : Type 0} (given : A → Option B) (a : A) (b : B) where
       p.1.1 ∙ ap (λ l. Some (get_or l 0 b)) (sym p.1.3)
   gives_at (x ∷ rows) items e (suc place) h =
       let p = parts x (given x) (all_of given rows) items e in
-      gives_at rows p.1.0 p.1.2 place (omega arith) ∙ ap (λ l. Some (get_or l (suc place) b)) (sym p.1.3)
+      gives_at rows p.1.0 p.1.2 place (omega arith)
+      ∙ ap (λ l. Some (get_or l (suc place) b)) (sym p.1.3)
 
   all_placed : (rows : List A) (items : List B) → all_of given rows ≡ Some items
       → (places : List ℕ) → AllByRecursion (λ place. place < length rows) places
@@ -36,9 +38,11 @@ module _ {A B : Type 0} (given : A → Option B) (a : A) (b : B) where
   unfolding all_of
   all_placed rows items e [] h = refl
   all_placed rows items e (place ∷ places) h =
-      ap (option_and_then (λ first. option_map (λ others. first ∷ others) (all_of (at_place rows) places)))
+      ap (option_and_then
+      (λ first. option_map (λ others. first ∷ others) (all_of (at_place rows) places)))
       (gives_at rows items e place h.0)
-      ∙ ap (option_map (λ others. get_or items place b ∷ others)) (all_placed rows items e places h.1)
+      ∙ ap (option_map (λ others. get_or items place b ∷ others))
+      (all_placed rows items e places h.1)
 
   abbrev IsMissing : List A → Type 0
   IsMissing rows = (place : ℕ) × ((place < length rows) × (at_place rows place ≡ None))
@@ -68,10 +72,12 @@ module _ {A B : Type 0} (given : A → Option B) (a : A) (b : B) where
   unfolding all_of
   none_placed rows place e [] i = absurd i
   none_placed rows place e (q ∷ places) (inl f) =
-      ap (option_and_then (λ first. option_map (λ others. first ∷ others) (all_of (at_place rows) places)))
+      ap (option_and_then
+      (λ first. option_map (λ others. first ∷ others) (all_of (at_place rows) places)))
       (ap (at_place rows) (sym f) ∙ e)
   none_placed rows place e (q ∷ places) (inr i) =
-      ends_none (at_place rows q) (all_of (at_place rows) places) (none_placed rows place e places i)
+      ends_none (at_place rows q) (all_of (at_place rows) places)
+      (none_placed rows place e places i)
 
   either : (rows : List A) (places : List ℕ)
       → AllByRecursion (λ place. place < length rows) places

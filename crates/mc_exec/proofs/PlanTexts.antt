@@ -56,7 +56,8 @@ lawful_names : (c : Catalog) → IsLawful c → (table : Option ℕ)
     → All (λ (index : IndexDecl). IsLawfulName index.name) (indexes_at c table)
 lawful_names c l None = λ k d w. absurd (omega (arith, w))
 lawful_names c l (Some p) = names_of (length c.collations) (slice_get c.tables p)
-    (at (IsLawfulTable (length c.collations)) c.tables l.so_far.tables p (slice_get c.tables p) refl)
+    (at (IsLawfulTable (length c.collations)) c.tables l.so_far.tables p
+    (slice_get c.tables p) refl)
 
 name_text : (o : Option IndexDecl) → IfSome o (λ it. IsLawfulName it.name)
     → IsTextOfSet (option_map_or (λ it. Str Ascii it.name) o Null)

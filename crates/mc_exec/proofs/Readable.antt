@@ -5,7 +5,7 @@ use Rattle.std.proofs.Common.{arith}
 use Rattle.std.proofs.lemmas.List.Elements.{All-from_recursion, recursion_from_All}
 use Rattle.std.proofs.lemmas.Option.{slice_get-get_or}
 use Rattle.std.specs.List.{AllByRecursion, AllZip}
-use Rattle.std.specs.Prelude.{All, Option, None, option_map, slice_get, unwrap_or}
+use Rattle.std.specs.Prelude.{All, IfSome, Option, None, option_map, slice_get, unwrap_or}
 use Rattle.mc_catalog.specs.Lawful.{IsLawful, IsLawfulTable, IsLawfulType}
 use Rattle.mc_catalog.specs.declared.catalog.Catalog.{Catalog}
 use Rattle.mc_catalog.specs.declared.catalog.CollDecl.{CollDecl}
@@ -24,6 +24,7 @@ use Rattle.mc_typing.specs.Columns.{column_ty}
 use Rattle.mc_typing.specs.OfType.{IsOfType, IsRowOf}
 use Rattle.mc_values.specs.declared.value.Value.{Value}
 use Rattle.mc_values.specs.declared.value.Value.TheVariants as value
+use Rattle.mc_exec.specs.Source.{source}
 use Rattle.mc_exec.specs.Steps.{IsReadable}
 use Rattle.mc_exec.proofs.Lengths.{spelled_length}
 
@@ -102,7 +103,8 @@ row_typed c (column ∷ columns) [] h place type e = absurd h
 row_typed c (column ∷ columns) (v ∷ row) h zero type e =
     let same : column_ty c column.ty ≡ type = cc in
     subst (λ t. IsOfType t v) same (value_typed c column.ty v h.0)
-row_typed c (column ∷ columns) (v ∷ row) h (suc place) type e = row_typed c columns row h.1 place type e
+row_typed c (column ∷ columns) (v ∷ row) h (suc place) type e =
+    row_typed c columns row h.1 place type e
 
 readable_row : Decodes → (c : Catalog) (place : ℕ) (table : TableDecl) (row : List Value)
     → slice_get c.tables place ≡ Some table → IsLawfulTable (length c.collations) table
@@ -137,7 +139,8 @@ pub readable : Decodes → (c : Catalog) → IsLawful c → (tables : List (List
 readable decodes c l tables h place rows e =
     let at = zip_at (AreRowsOf c) c.tables tables h place rows e in
     let lawful = each_get (IsLawfulTable (length c.collations)) c.tables
-    (recursion_from_All (IsLawfulTable (length c.collations)) c.tables l.so_far.tables) place at.0 at.1.0 in
+    (recursion_from_All (IsLawfulTable (length c.collations)) c.tables
+    l.so_far.tables) place at.0 at.1.0 in
     λ k d w. readable_row decodes c place at.0 _ at.1.0 lawful (at.1.1 k d w)
 
 -- So can those of the table at a place.
@@ -153,4 +156,16 @@ readable_in decodes c l tables h place w =
     (sym at) (readable decodes c l tables h place rows at)
 
 pub readable_empty : (c : Catalog) → IsReadable c None []
-readable_empty c = record { kept = λ k d w. absurd (omega arith); typed = λ place type e. absurd (cc) }
+readable_empty c = record {
+  kept = λ k d w. absurd (omega arith);
+  typed = λ place type e. absurd (cc);
+}
+
+-- So can those of a statement's source.
+pub readable_source : Decodes → (c : Catalog) → IsLawful c → (tables : List (List (List Value)))
+    → AreTablesOf c tables → (table : Option ℕ)
+    → IfSome table (λ place. place < length c.tables)
+    → All (IsReadable c table) (source tables table)
+readable_source decodes c l tables h (Some place) w = readable_in decodes c l tables h place w
+readable_source decodes c l tables h None w =
+    All-from_recursion (IsReadable c None) ([] ∷ []) (readable_empty c, tt)

@@ -1,7 +1,7 @@
 ghost use Rattle.mc_exec.specs.Aggregates.{count_of, present};
 ghost use Rattle.mc_exec.specs.Steps.{picked};
-ghost use Rattle.mc_group.specs.Groups.{firsts, same_value};
-ghost use Rattle.mc_group.specs.Kinds.{IsInBook, IsOfKind};
+ghost use Rattle.mc_group.specs.Groups.{firsts, same_row, same_value};
+ghost use Rattle.mc_group.specs.Kinds.{IsInBook, IsKeyRow, IsOfKind};
 ghost use Rattle.mc_group.specs.Sums.{is_null};
 ghost use Rattle.mc_values.specs.declared.value.Value.TheVariants as value;
 ghost use Rattle.std.specs.Prelude.{
@@ -16,8 +16,9 @@ ghost use Rattle.std.specs.Prelude.{
   pos,
 };
 
+use crate::numbers::class_numbers;
 use mc_base::{List, NoMemory};
-use mc_group::{KeyKind, group_laws, group_rows};
+use mc_group::{KeyKind, group_laws};
 use mc_order::Book;
 use mc_values::{Row, Value, copy_value};
 use std::alloc::Global;
@@ -87,6 +88,23 @@ fn put_present(alloc: Global, values: &[Value], rows: &mut List<Row>) -> Result<
     Ok(())
 }
 
+/// How many groups rows of one value form.
+fn row_classes<B: Book>(
+    alloc: Global,
+    kind: KeyKind,
+    rows: &List<Row>,
+    book: &B,
+) -> Result<usize, NoMemory>
+    requires in_book { IsInBook (B.count book.now) kind }
+    requires key_rows { All (IsKeyRow (B.meaning book.now) (kind ∷ [])) rows.now }
+    ensures { IfOk result (λ count.
+        count ≡ length (firsts (same_row (B.meaning book.now) (kind ∷ [])) rows.now)) }
+{
+    group_laws();
+    let numbers = class_numbers(alloc, kind, rows, book)?;
+    Ok(group_count(numbers.as_slice()))
+}
+
 /// How many values there are that are not NULL and that no earlier one is the same as.
 fn class_count<B: Book>(
     alloc: Global,
@@ -99,13 +117,9 @@ fn class_count<B: Book>(
     ensures { IfOk result (λ count.
         count ≡ length (firsts (same_value (B.meaning book.now) kind) (present values.now))) }
 {
-    group_laws();
-    let mut kinds = List::new(alloc);
-    kinds.push(kind)?;
     let mut rows = List::new(alloc);
     put_present(alloc, values, &mut rows)?;
-    let numbers = group_rows(alloc, &rows, &kinds, book)?;
-    Ok(group_count(numbers.as_slice()))
+    row_classes(alloc, kind, &rows, book)
 }
 
 /// COUNT of values.

@@ -5,7 +5,7 @@ ghost use Rattle.mc_exec.specs.Given.{all_of};
 ghost use Rattle.mc_exec.specs.Ready.{IsFitStatement, IsShowable};
 ghost use Rattle.mc_exec.specs.Shown.{line_in};
 ghost use Rattle.mc_exec.specs.Steps.{GoesOn, picked, with_all};
-ghost use Rattle.mc_exec.specs.Told.{TellsOf};
+ghost use Rattle.mc_exec.specs.Told.{Finds, TellsOf};
 ghost use Rattle.std.specs.List.{list_any};
 ghost use Rattle.std.specs.Prelude.{
   ◌≡◌,
@@ -22,10 +22,10 @@ ghost use Rattle.std.specs.Prelude.{
 use crate::fault::ExecFault;
 use crate::finished::put_arranged;
 use crate::lines::put_items;
-use crate::order::put_value_kinds;
+use crate::numbers::value_numbers;
 use crate::subject::LentSubject;
 use mc_base::{List, NoMemory, Steps};
-use mc_group::{group_laws, group_rows};
+use mc_group::group_laws;
 use mc_order::Book;
 use mc_typing::Typed;
 use mc_values::Row;
@@ -97,10 +97,38 @@ fn put_firsts<'a, 'b, B: Book>(
     ensures subjects { OnOk result (All (IsShowable (B.meaning book.now) q.now) firsts.new) }
 {
     group_laws();
-    let mut kinds = List::new(alloc);
-    put_value_kinds(q.items.as_slice(), &mut kinds)?;
-    let numbers = group_rows(alloc, rows, &kinds, book)?;
+    let numbers = value_numbers(alloc, q.items.as_slice(), rows, book)?;
     put_picked(subjects, numbers.as_slice(), firsts)
+}
+
+/// Appends the subjects whose items are those of no earlier one to none.
+fn put_unlike<'a, 'b, B: Book, W>(
+    alloc: Global,
+    q: &Typed,
+    subjects: &[LentSubject<'a, 'b>],
+    book: &B,
+    work: &mut Steps<W>,
+    firsts: &mut List<LentSubject<'a, 'b>>,
+) -> Result<(), ExecFault>
+    requires fit { IsFitStatement (B.count book.now) q.now }
+    requires subjects { All (IsShowable (B.meaning book.now) q.now) subjects.now }
+    requires none { firsts.old ≡ [] }
+    ensures told { Finds (all_of (line_in (B.meaning book.now) q.now) subjects.now) result }
+    ensures lines { OnOk result (all_of (line_in (B.meaning book.now) q.now) firsts.new
+        ≡ option_map (distinct (B.meaning book.now) q.now true)
+        (all_of (line_in (B.meaning book.now) q.now) subjects.now)) }
+    ensures subjects { OnOk result (All (IsShowable (B.meaning book.now) q.now) firsts.new) }
+    ensures work { GoesOn (list_any has_like q.now.items
+        || list_any (λ key. has_like key.expr) q.now.orders) work.old work.new }
+{
+    let mut rows = List::new(alloc);
+    match put_all_items(alloc, q, subjects, book, work, &mut rows) {
+        Ok(()) => match put_firsts(alloc, q, subjects, &rows, book, firsts) {
+            Ok(()) => Ok(()),
+            Err(error) => Err(ExecFault::from(error)),
+        },
+        Err(fault) => Err(fault),
+    }
 }
 
 /// Appends the rows that are shown of the subjects without those that are shown before.
@@ -121,13 +149,9 @@ fn put_distinct<B: Book, W>(
     ensures work { GoesOn (list_any has_like q.now.items
         || list_any (λ key. has_like key.expr) q.now.orders) work.old work.new }
 {
-    let mut rows = List::new(alloc);
     let mut firsts = List::new(alloc);
-    match put_all_items(alloc, q, subjects, book, work, &mut rows) {
-        Ok(()) => match put_firsts(alloc, q, subjects, &rows, book, &mut firsts) {
-            Ok(()) => put_arranged(alloc, q, firsts.as_slice(), book, work, shown),
-            Err(error) => Err(ExecFault::from(error)),
-        },
+    match put_unlike(alloc, q, subjects, book, work, &mut firsts) {
+        Ok(()) => put_arranged(alloc, q, firsts.as_slice(), book, work, shown),
         Err(fault) => Err(fault),
     }
 }

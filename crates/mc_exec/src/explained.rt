@@ -16,6 +16,7 @@ ghost use Rattle.std.specs.Prelude.{
   ◌≤◌,
   ◌<◌,
   ◌+◌,
+  ◌++◌,
   ◌∷◌,
   [],
   All,
@@ -39,15 +40,30 @@ use mc_typing::Typed;
 use mc_values::{Answer, Row, Value};
 use std::alloc::Global;
 
+/// Appends a header.
+fn put_header(alloc: Global, name: &[u8], header: &mut List<Text>) -> Result<(), NoMemory>
+    ensures { OnOk result (header.new ≡ header.old ++ name.now ∷ []) }
+{
+    header.push(Text::from_slice(alloc, name)?)
+}
+
+/// Appends the headers of a plan to none.
+fn put_plan_header(alloc: Global, header: &mut List<Text>) -> Result<(), NoMemory>
+    requires { header.old ≡ [] }
+    ensures { OnOk result (header.new ≡ plan_header) }
+{
+    put_header(alloc, b"key", header)?;
+    put_header(alloc, b"conjunct", header)?;
+    put_header(alloc, b"intervals", header)?;
+    put_header(alloc, b"entries", header)
+}
+
 /// The headers of a plan.
 fn plan_header(alloc: Global) -> Result<List<Text>, NoMemory>
     ensures { IfOk result (λ header. header ≡ plan_header) }
 {
     let mut header = List::new(alloc);
-    header.push(Text::from_slice(alloc, b"key")?)?;
-    header.push(Text::from_slice(alloc, b"conjunct")?)?;
-    header.push(Text::from_slice(alloc, b"intervals")?)?;
-    header.push(Text::from_slice(alloc, b"entries")?)?;
+    put_plan_header(alloc, &mut header)?;
     Ok(header)
 }
 

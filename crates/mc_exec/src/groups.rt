@@ -3,7 +3,7 @@ ghost use Rattle.mc_eval.specs.Outcomes.{IsKept};
 ghost use Rattle.mc_exec.specs.Given.{alone, values_in, values_of};
 ghost use Rattle.mc_exec.specs.Grouped.{grouped, groups_by, parted, value_kinds};
 ghost use Rattle.mc_exec.specs.Ready.{GiveKinds};
-ghost use Rattle.mc_exec.specs.Steps.{GoesOn, IsFit, appended, with_all};
+ghost use Rattle.mc_exec.specs.Steps.{GoesOn, IsFit, appended, picked, with_all};
 ghost use Rattle.mc_exec.specs.Told.{TellsOf};
 ghost use Rattle.mc_group.specs.Groups.{same_row};
 ghost use Rattle.mc_group.specs.Kinds.{IsInBook, IsKeyRow};
@@ -26,10 +26,10 @@ ghost use Rattle.std.specs.Prelude.{
 use crate::counts::group_count;
 use crate::fault::ExecFault;
 use crate::keys::put_row;
-use crate::order::put_value_kinds;
+use crate::numbers::value_numbers;
 use crate::subject::LentSubject;
 use mc_base::{List, NoMemory, Steps};
-use mc_group::{group_laws, group_rows};
+use mc_group::group_laws;
 use mc_order::Book;
 use mc_typing::TypedExpr;
 use mc_values::Row;
@@ -133,6 +133,22 @@ fn put_numbered<'a>(
     Ok(())
 }
 
+/// Appends the groups of rows by their numbers to none.
+fn put_by_numbers<'a>(
+    alloc: Global,
+    rows: &[&'a Row],
+    numbers: &[u32],
+    groups: &mut Groups<'a>,
+) -> Result<(), NoMemory>
+    requires as_many { length numbers.now ≡ length rows.now }
+    requires none { groups.old ≡ [] }
+    ensures { OnOk result (groups.new ≡ parted (length (picked 0 numbers.now numbers.now))
+        numbers.now (map (λ row. row.now) rows.now)) }
+{
+    open_groups(alloc, group_count(numbers), groups)?;
+    put_numbered(rows, numbers, groups)
+}
+
 /// Appends the groups of rows by these keys to none.
 fn put_parted<'a, B: Book>(
     alloc: Global,
@@ -151,11 +167,8 @@ fn put_parted<'a, B: Book>(
         (map (λ row. row.now) rows.now)) }
 {
     group_laws();
-    let mut kinds = List::new(alloc);
-    put_value_kinds(exprs, &mut kinds)?;
-    let numbers = group_rows(alloc, keys, &kinds, book)?;
-    open_groups(alloc, group_count(numbers.as_slice()), groups)?;
-    put_numbered(rows, numbers.as_slice(), groups)
+    let numbers = value_numbers(alloc, exprs, keys, book)?;
+    put_by_numbers(alloc, rows, numbers.as_slice(), groups)
 }
 
 /// Appends the row of expressions' values in a row.

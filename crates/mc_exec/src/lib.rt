@@ -10,9 +10,10 @@
 //!
 //! Read `fault` and `tables`; then `planned` (the rows that a plan reads, by their numbers), `scan`
 //! (the rows that are kept, lent), `subject` (what expressions are evaluated in), `keys` (their
-//! values), `order`, `shown` (the rows of the answer) and `finished`; `lines` and `distinct`;
-//! `collected` (the aggregates of a statement), `counts`, `aggregates`, `groups` and `grouped`;
-//! `answers` and `explained`; and `laws`, which other crates prove with.
+//! values), `order`, `shown` (the rows of the answer) and `finished`; `numbers` (the groups of rows
+//! of values), `lines` and `distinct`; `collected` (the aggregates of a statement), `counts`,
+//! `aggregates`, `groups` and `grouped`; `answers` and `explained`; and `laws`, which other crates
+//! prove with.
 #![tactic(auto)]
 
 mod aggregates;
@@ -28,6 +29,7 @@ mod groups;
 mod keys;
 mod laws;
 mod lines;
+mod numbers;
 mod order;
 mod planned;
 mod scan;

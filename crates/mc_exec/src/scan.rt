@@ -4,6 +4,7 @@ ghost use Rattle.mc_eval.specs.Acceptance.{acceptance};
 ghost use Rattle.mc_eval.specs.Fit.{has_like};
 ghost use Rattle.mc_eval.specs.Node.{place};
 ghost use Rattle.mc_eval.specs.Outcomes.{IsKept};
+ghost use Rattle.mc_eval.specs.Prepared.{ArePrepared, prepared_exprs};
 ghost use Rattle.mc_exec.specs.FullScan.{kept_rows};
 ghost use Rattle.mc_exec.specs.Planned.{plan_entries, plan_seeks};
 ghost use Rattle.mc_exec.specs.Source.{source};
@@ -41,31 +42,32 @@ use crate::planned::plan_rows;
 use crate::tables::Tables;
 use mc_base::{List, Steps};
 use mc_charset::chars_law;
-use mc_eval::accepts;
+use mc_eval::{Prepared, accepts_prepared, prepare};
 use mc_order::Book;
 use mc_plan::{Plan, choose};
 use mc_rows::Table;
-use mc_typing::{Typed, TypedExpr};
+use mc_typing::Typed;
 use mc_values::Row;
 use std::alloc::Global;
 
 /// Appends a row where the conjuncts accept it.
 fn keep_row<'a, B: Book, W>(
     alloc: Global,
-    conjuncts: &List<TypedExpr>,
+    conjuncts: &List<Prepared<'_>>,
     row: &'a Row,
     book: &B,
     work: &mut Steps<W>,
     kept: &mut List<&'a Row>,
 ) -> Result<(), ExecFault>
-    requires fit { All (IsFit (B.count book.now)) conjuncts.now }
+    requires fit { All (IsFit (B.count book.now)) (prepared_exprs conjuncts.now) }
+    requires ready { ArePrepared (B.meaning book.now) conjuncts.now }
     requires row { All IsKept row.now }
     ensures told { TellsOf (kept_with
-        (acceptance (place row.now [] (B.meaning book.now)) conjuncts.now)
+        (acceptance (place row.now [] (B.meaning book.now)) (prepared_exprs conjuncts.now))
         (map (λ r. r.now) kept.old) row.now) (map (λ r. r.now) kept.new) result }
-    ensures work { GoesOn (list_any has_like conjuncts.now) work.old work.new }
+    ensures work { GoesOn (list_any has_like (prepared_exprs conjuncts.now)) work.old work.new }
 {
-    match accepts(alloc, conjuncts, row, book, work) {
+    match accepts_prepared(alloc, conjuncts, row, book, work) {
         Ok(true) => {
             kept.push(row)?;
             Ok(())
@@ -78,19 +80,21 @@ fn keep_row<'a, B: Book, W>(
 /// Appends the rows of a table that the conjuncts accept. Each row is fetched once.
 fn keep_rows<'a, B: Book, W, L>(
     alloc: Global,
-    conjuncts: &List<TypedExpr>,
+    conjuncts: &List<Prepared<'_>>,
     table: &'a Table<L>,
     book: &B,
     work: &mut Steps<W>,
     steps: &mut Steps<L>,
     kept: &mut List<&'a Row>,
 ) -> Result<(), ExecFault>
-    requires fit { All (IsFit (B.count book.now)) conjuncts.now }
+    requires fit { All (IsFit (B.count book.now)) (prepared_exprs conjuncts.now) }
+    requires ready { ArePrepared (B.meaning book.now) conjuncts.now }
     requires rows { All (All IsKept) table.now }
     ensures told { TellsOf
-        (with_kept (λ row. acceptance (place row [] (B.meaning book.now)) conjuncts.now)
+        (with_kept (λ row. acceptance (place row [] (B.meaning book.now))
+        (prepared_exprs conjuncts.now))
         (map (λ r. r.now) kept.old) table.now) (map (λ r. r.now) kept.new) result }
-    ensures work { GoesOn (list_any has_like conjuncts.now) work.old work.new }
+    ensures work { GoesOn (list_any has_like (prepared_exprs conjuncts.now)) work.old work.new }
     ensures fetched { steps.old ≤ steps.new }
     ensures steps { steps.new ≤ steps.old + length table.now }
 {
@@ -106,7 +110,7 @@ fn keep_rows<'a, B: Book, W, L>(
 /// Appends the rows of these numbers that the conjuncts accept. Each is fetched once.
 fn keep_numbered<'a, B: Book, W, L>(
     alloc: Global,
-    conjuncts: &List<TypedExpr>,
+    conjuncts: &List<Prepared<'_>>,
     table: &'a Table<L>,
     numbers: &[u32],
     book: &B,
@@ -114,14 +118,16 @@ fn keep_numbered<'a, B: Book, W, L>(
     steps: &mut Steps<L>,
     kept: &mut List<&'a Row>,
 ) -> Result<(), ExecFault>
-    requires fit { All (IsFit (B.count book.now)) conjuncts.now }
+    requires fit { All (IsFit (B.count book.now)) (prepared_exprs conjuncts.now) }
+    requires ready { ArePrepared (B.meaning book.now) conjuncts.now }
     requires rows { All (All IsKept) table.now }
     requires numbers { All (λ number. number < length table.now) numbers.now }
     ensures told { TellsOf
-        (with_kept (λ row. acceptance (place row [] (B.meaning book.now)) conjuncts.now)
+        (with_kept (λ row. acceptance (place row [] (B.meaning book.now))
+        (prepared_exprs conjuncts.now))
         (map (λ r. r.now) kept.old) (rows_of table.now numbers.now))
         (map (λ r. r.now) kept.new) result }
-    ensures work { GoesOn (list_any has_like conjuncts.now) work.old work.new }
+    ensures work { GoesOn (list_any has_like (prepared_exprs conjuncts.now)) work.old work.new }
     ensures fetched { steps.old ≤ steps.new }
     ensures steps { steps.new ≤ steps.old + length numbers.now }
 {
@@ -144,7 +150,7 @@ fn keep_numbered<'a, B: Book, W, L>(
 /// Appends the rows that a plan reads and the conjuncts accept. Each that it reads is fetched once.
 fn keep_planned<'a, B: Book, W, L>(
     alloc: Global,
-    conjuncts: &List<TypedExpr>,
+    conjuncts: &List<Prepared<'_>>,
     t: &'a Tables<L>,
     table_place: u32,
     plan: &Plan,
@@ -153,18 +159,21 @@ fn keep_planned<'a, B: Book, W, L>(
     steps: &mut Steps<L>,
     kept: &mut List<&'a Row>,
 ) -> Result<(), ExecFault>
-    requires fit { All (IsFit (B.count book.now)) conjuncts.now }
+    requires fit { All (IsFit (B.count book.now)) (prepared_exprs conjuncts.now) }
+    requires ready { ArePrepared (B.meaning book.now) conjuncts.now }
     requires table { table_place < length t.now.catalog.tables }
     requires served { IsServed (B.count book.now) t.now.catalog (Some table_place) plan.now }
     requires book { FitBook t.now.catalog (B.meaning book.now) t.now.rows t.now.indexes }
     requires rows { All (All IsKept) (rows_in t.now.rows table_place) }
     ensures told { TellsOf
-        (with_kept (λ row. acceptance (place row [] (B.meaning book.now)) conjuncts.now)
+        (with_kept (λ row. acceptance (place row [] (B.meaning book.now))
+        (prepared_exprs conjuncts.now))
         (map (λ r. r.now) kept.old)
         (filter (is_entry t.now.catalog (B.meaning book.now) (Some table_place) plan.now)
         (rows_in t.now.rows table_place))) (map (λ r. r.now) kept.new) result }
-    ensures work { GoesUpTo (list_any has_like conjuncts.now) (seeks t.now.catalog (Some table_place)
-        plan.now (rows_in t.now.rows table_place)) work.old work.new }
+    ensures work { GoesUpTo (list_any has_like (prepared_exprs conjuncts.now))
+        (seeks t.now.catalog (Some table_place) plan.now (rows_in t.now.rows table_place))
+        work.old work.new }
     ensures fetched { steps.old ≤ steps.new }
     ensures steps { steps.new ≤ steps.old + entries t.now.catalog (B.meaning book.now)
         (Some table_place) plan.now (rows_in t.now.rows table_place) }
@@ -191,6 +200,59 @@ fn keep_planned<'a, B: Book, W, L>(
             }
             Err(error) => Err(ExecFault::from(error)),
         },
+    }
+}
+
+/// The rows of a statement's source can be read by its expressions.
+fn source_law<L>(q: &Typed, t: &Tables<L>)
+    requires lawful { IsLawful t.now.catalog }
+    requires sound { IsSoundStatement t.now.catalog q.now }
+    ensures { All (IsReadable t.now.catalog q.now.table) (source t.now.rows q.now.table) }
+{
+    chars_law();
+    t.rows_law();
+    let _table = q.table;
+}
+
+/// Appends the rows of a statement's source that its conjuncts, which are made ready, accept.
+fn keep_source<'a, B: Book, W, L>(
+    alloc: Global,
+    q: &Typed,
+    conjuncts: &List<Prepared<'_>>,
+    t: &'a Tables<L>,
+    empty: &'a Row,
+    book: &B,
+    work: &mut Steps<W>,
+    steps: &mut Steps<L>,
+    kept: &mut List<&'a Row>,
+) -> Result<(), ExecFault>
+    requires lawful { IsLawful t.now.catalog }
+    requires fits { FitsCatalog t.now.catalog (B.count book.now)
+        (λ id. (B.meaning book.now id).charset) }
+    requires sound { IsSoundStatement t.now.catalog q.now }
+    requires book { FitBook t.now.catalog (B.meaning book.now) t.now.rows t.now.indexes }
+    requires fit { All (IsFit (B.count book.now)) q.now.conjuncts }
+    requires exprs { prepared_exprs conjuncts.now ≡ q.now.conjuncts }
+    requires ready { ArePrepared (B.meaning book.now) conjuncts.now }
+    requires readable { All (IsReadable t.now.catalog q.now.table)
+        (source t.now.rows q.now.table) }
+    requires empty { empty.now ≡ [] }
+    requires none { kept.old ≡ [] }
+    ensures told { TellsOf
+        (kept_rows (B.meaning book.now) q.now (source t.now.rows q.now.table))
+        (map (λ r. r.now) kept.new) result }
+    ensures work { GoesUpTo (list_any has_like q.now.conjuncts)
+        (plan_seeks t.now.catalog (B.meaning book.now) t.now.rows q.now) work.old work.new }
+    ensures fetched { steps.old ≤ steps.new }
+    ensures steps { steps.new
+        ≤ steps.old + plan_entries t.now.catalog (B.meaning book.now) t.now.rows q.now }
+{
+    match q.table {
+        Some(place) => match choose(alloc, q, t.catalog(), book) {
+            Ok(plan) => keep_planned(alloc, conjuncts, t, place, &plan, book, work, steps, kept),
+            Err(error) => Err(ExecFault::from(error)),
+        },
+        None => keep_row(alloc, conjuncts, empty, book, work, kept),
     }
 }
 
@@ -226,16 +288,9 @@ pub(crate) fn kept_rows<'a, B: Book, W, L>(
     ensures steps { steps.new
         ≤ steps.old + plan_entries t.now.catalog (B.meaning book.now) t.now.rows q.now }
 {
-    chars_law();
-    t.rows_law();
-    match q.table {
-        Some(place) => match choose(alloc, q, t.catalog(), book) {
-            Ok(plan) => {
-                let conjuncts = &q.conjuncts;
-                keep_planned(alloc, conjuncts, t, place, &plan, book, work, steps, kept)
-            }
-            Err(error) => Err(ExecFault::from(error)),
-        },
-        None => keep_row(alloc, &q.conjuncts, empty, book, work, kept),
+    source_law(q, t);
+    match prepare(alloc, &q.conjuncts, book) {
+        Ok(conjuncts) => keep_source(alloc, q, &conjuncts, t, empty, book, work, steps, kept),
+        Err(error) => Err(ExecFault::from(error)),
     }
 }

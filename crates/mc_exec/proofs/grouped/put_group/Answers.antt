@@ -40,7 +40,8 @@ check_group-requires-clause-rows g c =
     (All-weaker (IsAggregable m (aggregates_in c.args.q.now)) (All IsKept) (λ row h. h.kept)
     (map (λ (r : Bor (List Value)). r.now) c.args.rows.now) c.requires.rows)
 
-pub returns-in_ok-push-in-Ok-check_group-clause-told : goal.returns-in_ok-push-in-Ok-check_group-clause-told
+pub returns-in_ok-push-in-Ok-check_group-clause-told :
+    goal.returns-in_ok-push-in-Ok-check_group-clause-told
 returns-in_ok-push-in-Ok-check_group-clause-told g c =
     let m = g.B.Book.meaning c.args.book.now in
     let q = c.args.q.now in
@@ -101,7 +102,8 @@ like_lent : {A : Type 0} (seen : A → TypedExpr) (xs : List A) (all : List Type
 like_lent seen xs all old new e h = subst (λ b. GoesOn b old new)
     (any_seen has_like seen xs ∙ ap (list_any has_like) e) h
 
-pub returns-in_err-push-in-Ok-check_group-clause-work : goal.returns-in_err-push-in-Ok-check_group-clause-work
+pub returns-in_err-push-in-Ok-check_group-clause-work :
+    goal.returns-in_err-push-in-Ok-check_group-clause-work
 returns-in_err-push-in-Ok-check_group-clause-work g c =
     let q = c.args.q.now in
     goes_both (list_any has_like (aggregates_in q))
@@ -109,7 +111,8 @@ returns-in_err-push-in-Ok-check_group-clause-work g c =
     (like_lent (λ (a : Bor TypedExpr). a.now) c.args.aggregates.now (aggregates_in q) _ _
     c.requires.aggregates c.in-Ok.ensures.work) c.in-Ok-check_group.ensures.work
 
-pub returns-in_ok-push-in-Ok-check_group-clause-work : goal.returns-in_ok-push-in-Ok-check_group-clause-work
+pub returns-in_ok-push-in-Ok-check_group-clause-work :
+    goal.returns-in_ok-push-in-Ok-check_group-clause-work
 returns-in_ok-push-in-Ok-check_group-clause-work g c =
     let q = c.args.q.now in
     goes_both (list_any has_like (aggregates_in q))

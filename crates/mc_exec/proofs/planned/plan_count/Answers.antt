@@ -18,7 +18,8 @@ returns-in_err-numbers-in-ByIndex-clause-work g c =
     let is = seeks_by t.catalog (Some p) c.args.plan.now c.in-ByIndex.index c.in-ByIndex.conjunct
     c.in-ByIndex.intervals c.as_slice.result.now (rows_in t.rows p) c.in-ByIndex.is
     c.as_slice.ensures in
-    let all = ap (λ (o : Option ℕ). seeks t.catalog o c.args.plan.now (source t.rows o)) c.in-Some.is in
+    let all = ap (λ (o : Option ℕ). seeks t.catalog o c.args.plan.now (source t.rows o))
+    c.in-Some.is in
     let most = c.plan_rows.ensures.work c.in-ByIndex.conjunct in
     omega (arith, is, all, most)
 
@@ -42,7 +43,8 @@ returns-in_ok-numbers-in-ByIndex-clause-work g c =
     let is = seeks_by t.catalog (Some p) c.args.plan.now c.in-ByIndex.index c.in-ByIndex.conjunct
     c.in-ByIndex.intervals c.as_slice.result.now (rows_in t.rows p) c.in-ByIndex.is
     c.as_slice.ensures in
-    let all = ap (λ (o : Option ℕ). seeks t.catalog o c.args.plan.now (source t.rows o)) c.in-Some.is in
+    let all = ap (λ (o : Option ℕ). seeks t.catalog o c.args.plan.now (source t.rows o))
+    c.in-Some.is in
     let most = c.plan_rows.ensures.work c.in-ByIndex.conjunct in
     omega (arith, is, all, most)
 

@@ -1,4 +1,5 @@
--- The index that is held is the plan's, and what it has in the plan's intervals are the plan's rows.
+-- The index that is held is the plan's, and what it has in the plan's intervals are the plan's
+-- rows.
 use Rattle.std.proofs.Common.{◌≡◌, ℕ, List, Some, subst}
 use Rattle.mc_catalog.specs.declared.catalog.Catalog.{Catalog}
 use Rattle.mc_gather.specs.Indexed.{rows_in}

@@ -1,8 +1,10 @@
 -- The rows that a plan reads are all of the table's, or those of the numbers that its index has.
-use Rattle.std.proofs.Common.{◌≡◌, ◌<◌, ◌≤◌, ◌+◌, ℕ, List, [], Some, ap, map, subst, sym, arith, length, ◌∙◌}
+use Rattle.std.proofs.Common.{◌≡◌, ◌<◌, ◌≤◌, ◌+◌, ℕ, List, [], Some, ap, map, subst, sym, arith}
+use Rattle.std.proofs.Common.{length, ◌∙◌}
 use Rattle.std.specs.Prelude.{All, filter}
 use Rattle.mc_eval.specs.Acceptance.{acceptance}
 use Rattle.mc_eval.specs.Node.{place}
+use Rattle.mc_eval.specs.Prepared.{prepared_exprs}
 use Rattle.mc_gather.specs.Indexed.{rows_in}
 use Rattle.mc_plan.specs.Entries.{entries, is_entry}
 use Rattle.mc_plan.specs.declared.plan.Plan.{Plan}
@@ -26,7 +28,8 @@ pub returns-in-Scan-clause-told : goal.returns-in-Scan-clause-told
 returns-in-Scan-clause-told g c =
     let t = c.args.t.now in
     let m = g.B.Book.meaning c.args.book.now in
-    let accepted = λ (row : List Value). acceptance (place row [] m) c.args.conjuncts.now in
+    let accepted = λ (row : List Value).
+    acceptance (place row [] m) (prepared_exprs c.args.conjuncts.now) in
     let p = c.args.table_place in
     let first = map (λ r. r.now) c.args.kept.now in
     let is : c.table-table.result.now

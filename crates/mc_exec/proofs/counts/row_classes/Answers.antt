@@ -1,0 +1,13 @@
+-- A number is new where a row is the first of its group.
+use Rattle.std.proofs.Common.{[], ◌∷◌, ◌∙◌}
+use Rattle.mc_group.specs.Groups.{same_row}
+use Rattle.mc_exec.proofs.Firsts.{picked_count}
+use Rattle.mc_exec.proofs.counts.row_classes.Goals as goal
+
+pub returns : goal.returns
+returns g c =
+    let m = g.B.Book.meaning c.args.book.now in
+    let kinds = c.args.kind ∷ [] in
+    c.group_count.ensures
+    ∙ picked_count (same_row m kinds) (c.group_laws.ensures.equivalence m kinds) c.args.rows.now
+    c.as_slice.result.now (c.as_slice.ensures ∙ c.in_ok-numbers.ensures)
