@@ -12,3 +12,4 @@ pub mod InnerFacts
 pub mod FlatOrder
 pub mod Splits
 pub mod DirectFacts
+pub mod Steps

@@ -198,7 +198,33 @@ impl Weigher {
     }
 
     /// The order on a level.
+    // Most characters have one weight on it and are pieces by themselves: as long as both texts
+    // begin with such ones, no stream is made.
+    #[tactic(auto, using(crate::proofs::Steps::steps))]
     fn compare_on<E: Encoding>(&self, a: &[u8], b: &[u8], level: u8, space: u32) -> Ordering
+        requires { E.set ≡ self.now.charset }
+        ensures { let list = uca_list self.now.charset self.now.kind self.now.keys level in
+            result ≡ list_order (pad_of self.now.kind) space (list (chars E.set a.now))
+            (list (chars E.set b.now)) }
+    {
+        let direct = self.direct.on(level);
+        let mut left = a;
+        let mut right = b;
+        while let Some(first) = self.front_weight::<E>(direct, left) {
+            let Some(second) = self.front_weight::<E>(direct, right) else {
+                return self.compare_pieces::<E>(left, right, level, space);
+            };
+            if first.weight != second.weight {
+                return first.weight.cmp(&second.weight);
+            }
+            left = first.behind;
+            right = second.behind;
+        }
+        self.compare_pieces::<E>(left, right, level, space)
+    }
+
+    /// The order on a level, piece by piece.
+    fn compare_pieces<E: Encoding>(&self, a: &[u8], b: &[u8], level: u8, space: u32) -> Ordering
         requires { E.set ≡ self.now.charset }
         ensures { let list = uca_list self.now.charset self.now.kind self.now.keys level in
             result ≡ list_order (pad_of self.now.kind) space (list (chars E.set a.now))

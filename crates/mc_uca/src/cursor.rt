@@ -4,11 +4,11 @@ ghost use Rattle.mc_uca.specs.Weighing.{uca_list};
 ghost use Rattle.std.specs.Option.{option_map_or};
 ghost use Rattle.std.specs.Prelude.{◌≡◌, ◌++◌, ◌∷◌, [], None, MatchOption};
 
-use crate::direct::{DirectWeight, direct_at};
+use crate::direct::DirectWeight;
 use crate::pending::Pending;
 use crate::stream::LevelWeights;
 use crate::weigher::Weigher;
-use mc_charset::{CharAt, Encoding, next_in};
+use mc_charset::Encoding;
 use mc_order::WeightStream;
 use std::marker::PhantomData;
 
@@ -68,19 +68,9 @@ impl<'a, E: Encoding> TextWeights<'a, E> {
             (λ weight. ⟦<TextWeights<'a, E> as WeightStream>⟧.left self.old
             ≡ weight ∷ ⟦<TextWeights<'a, E> as WeightStream>⟧.left self.new) }
     {
-        let CharAt::Char { code, len } = next_in::<E>(self.text) else {
-            return None;
-        };
-        let direct = direct_at(self.direct, code);
-        if direct.weight == 0 {
-            return None;
-        }
-        let behind = &self.text[len..];
-        if direct.is_head && !self.weigher.is_fresh::<E>(behind) {
-            return None;
-        }
-        self.text = behind;
-        Some(u32::from(direct.weight))
+        let front = self.weigher.front_weight::<E>(self.direct, self.text)?;
+        self.text = front.behind;
+        Some(u32::from(front.weight))
     }
 
     /// The next weight of the piece at hand, or of the next ones.

@@ -25,6 +25,7 @@ mod fault;
 mod findings;
 mod flat;
 mod floor;
+mod front;
 mod heads;
 mod inner;
 mod kind;
