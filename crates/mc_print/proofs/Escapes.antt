@@ -1,6 +1,9 @@
 -- A text as it is written, up to its first escape and behind it.
-use Rattle.std.proofs.Common.{◌≡◌, ℕ, suc, ◌+◌, Bool, true, false, List, [], ◌∷◌, ◌++◌, take, drop, refl, sym, ap, ◌∙◌, append-nil, append_assoc, length, arith}
-use Rattle.std.specs.List.{flat_map, position_or_len}
+use Rattle.std.proofs.Common.{◌≡◌, ℕ, zero, suc, ◌+◌, ◌≤◌, Bool, ◌||◌, true, false, List, [], ◌∷◌}
+use Rattle.std.proofs.Common.{◌++◌, take, drop, refl, sym, ap, ◌∙◌, append-nil, append_assoc}
+use Rattle.std.proofs.Common.{length, not, arith}
+use Rattle.std.specs.List.{flat_map, list_any, position_or_len}
+use Rattle.std.proofs.lemmas.Bool.{or_parts, true≢false}
 use Rattle.std.proofs.lemmas.Bool.Decides.{nat_tests}
 use Rattle.mc_print.specs.Escapes.{is_escaped, escaped_byte}
 
@@ -57,3 +60,29 @@ one_turn out next after all before plain more text byte n a t i =
     ∙ append_assoc (out ++ plain) (escaped_byte byte) (flat_map escaped_byte more)
     ∙ append_assoc out plain (escaped_byte byte ++ flat_map escaped_byte more)
     ∙ ap (λ x. out ++ x) (sym t) ∙ i
+
+-- One byte more of a block without an escape.
+past_one : (b n : ℕ) (text : List ℕ) (t : Bool) → is_escaped b ≡ t
+    → (is_escaped b || list_any is_escaped (take n text)) ≡ false
+    → (list_any is_escaped (take n text) ≡ false
+    → position_or_len is_escaped text ≡ n + position_or_len is_escaped (drop n text))
+    → position_or_len is_escaped (b ∷ text) ≡ suc n + position_or_len is_escaped (drop n text)
+past_one b n text true e f h = absurd (true≢false (sym e ∙ (or_parts _ _ f).0))
+past_one b n text false e f h =
+    let rest = h (or_parts (is_escaped b) _ f).1 in
+    let first : position_or_len is_escaped (b ∷ text) ≡ 1 + position_or_len is_escaped text = rw e refl in
+    omega (arith, rest, first)
+
+-- The first escape behind a block without any.
+pub past_block : (n : ℕ) (text : List ℕ) → n ≤ length text
+    → list_any is_escaped (take n text) ≡ false
+    → position_or_len is_escaped text ≡ n + position_or_len is_escaped (drop n text)
+past_block zero text h f = omega arith
+past_block (suc n) [] h f = absurd (omega (arith, h))
+past_block (suc n) (b ∷ text) h f =
+    past_one b n text (is_escaped b) refl f (past_block n text (omega (arith, h)))
+
+-- Nothing is found where what is not found is said.
+pub none_found : (found : Bool) → not found ≡ true → found ≡ false
+none_found true h = absurd (true≢false (sym h))
+none_found false h = refl

@@ -1,6 +1,6 @@
 ghost use Rattle.mc_print.specs.Escapes.{as_written, escaped_byte, is_escaped};
-ghost use Rattle.std.specs.List.{position_or_len};
-ghost use Rattle.std.specs.Prelude.{◌≡◌, ◌≤◌, ◌++◌, OnOk, length};
+ghost use Rattle.std.specs.List.{list_any, position_or_len};
+ghost use Rattle.std.specs.Prelude.{◌≡◌, ◌≤◌, ◌++◌, OnOk, length, not};
 
 use mc_base::{NoMemory, Text};
 
@@ -27,6 +27,33 @@ fn plain_len(text: &[u8]) -> usize
     ensures len { result ≡ position_or_len is_escaped text.now }
     ensures within { result ≤ length text.now }
 {
+    let mut passed = 0;
+    while text.len() - passed >= BLOCK && is_plain(&text[passed..passed + BLOCK]) {
+        passed += BLOCK;
+    }
+    passed + first_escape(&text[passed..])
+}
+
+/// How many bytes are looked at in one step.
+const BLOCK: usize = 32;
+
+/// Whether no byte of a block is written by an escape.
+// Neither this nor `is_escaped` leaves early, so that compilers make vector steps of the loop.
+fn is_plain(block: &[u8]) -> bool
+    ensures { result ≡ not (list_any is_escaped block.now) }
+{
+    let mut found = false;
+    for byte in block {
+        found |= is_escaped(*byte);
+    }
+    !found
+}
+
+/// The same, byte by byte.
+fn first_escape(text: &[u8]) -> usize
+    ensures len { result ≡ position_or_len is_escaped text.now }
+    ensures within { result ≤ length text.now }
+{
     for (i, byte) in text.iter().enumerate() {
         if is_escaped(*byte) {
             return i;
@@ -40,7 +67,7 @@ fn plain_len(text: &[u8]) -> usize
 fn is_escaped(byte: u8) -> bool
     ensures { result ≡ is_escaped byte }
 {
-    byte == b'\0' || byte == b'\t' || byte == b'\n' || byte == b'\\'
+    (byte == b'\0') | (byte == b'\t') | (byte == b'\n') | (byte == b'\\')
 }
 
 /// Appends a byte as it is written.
