@@ -35,6 +35,7 @@ use Rattle.mc_typing.specs.declared.typed.Node.TheVariants as node
 use Rattle.mc_typing.specs.declared.typed.Ty.{Ty}
 use Rattle.mc_typing.specs.declared.typed.Ty.TheVariants.{Int, Str}
 use Rattle.mc_typing.specs.declared.typed.TypedExpr.{TypedExpr}
+use Rattle.mc_typing.specs.AggregatePlaces.{aggregate_places, own_places}
 use Rattle.mc_typing.specs.AggregateTypes.{aggregate_types, is_aggregate_node, types_with}
 use Rattle.mc_typing.specs.Aggregates.{is_aggregate, is_aggregate_form, is_constant, shows_type}
 use Rattle.mc_typing.specs.Calls.{call, called, fitted, function_call, is_cut, misfits, strcmp}
@@ -58,6 +59,7 @@ use Rattle.mc_typing.specs.Operators.{number_expr, of_numbers, of_one_number, to
 use Rattle.mc_typing.specs.Parts.{node_parts}
 use Rattle.mc_typing.specs.Places.{column_in}
 use Rattle.mc_typing.specs.Scope.{columns_of, connection_set}
+use Rattle.mc_typing.proofs.AggregatePlaces.{aggregate_places_is}
 use Rattle.mc_typing.proofs.SoundCalls.{eq_to}
 use Rattle.mc_typing.proofs.Ungrouped.{aggregate_types_is}
 
@@ -70,9 +72,14 @@ is_and _ = false
 pub record IsOver (an_and : Bool) (xs : List TypedExpr) (x : TypedExpr) : Type 0 where
   pub and : is_and (out-Node x.node) ≡ an_and
   pub types : aggregate_types x ≡ flat_map aggregate_types xs
+  pub places : aggregate_places x ≡ flat_map aggregate_places xs
 
 abbrev pub IsBuilt : Bool → List TypedExpr → Typing → Type 0
 IsBuilt an_and xs t = IfOk t (IsOver an_and xs)
+
+no_own : {X A : Type 0} (l : Node-F X A) → is_aggregate_node l ≡ false → own_places l ≡ []
+no_own (Node-F.Aggregate name distinct arg place) h = absurd (cc)
+no_own l h = refl
 
 pub over : (n : Node) (l : Node-F Node TypedExpr) (ty : Ty) → out-Node n ≡ l
     → is_aggregate_node l ≡ false
@@ -83,6 +90,11 @@ over n l ty e h = record {
       ∙ (ap (λ (m : Node-F Node TypedExpr).
       types_with (is_aggregate_node m) (flat_map aggregate_types (node_parts m)) ty) e
       ∙ ap (λ b. types_with b (flat_map aggregate_types (node_parts l)) ty) h);
+  places = aggregate_places_is (record { node = n; ty = ty })
+      ∙ (ap (λ (m : Node-F Node TypedExpr).
+      flat_map aggregate_places (node_parts m) ++ own_places m) e
+      ∙ (ap (λ places. flat_map aggregate_places (node_parts l) ++ places) (no_own l h)
+      ∙ append-nil (flat_map aggregate_places (node_parts l))));
 }
 
 pub const_over : (v : Value) (ty : Ty) → IsOver false [] (record { node = node.Const v; ty = ty })
@@ -182,11 +194,24 @@ pub text_types : (c : Catalog) (s : Scope) (x : TypedExpr)
     → aggregate_types (as_text c s x) ≡ aggregate_types x
 text_types c s x = digits_types c s x (is_number x.ty)
 
+digits_places : (c : Catalog) (s : Scope) (x : TypedExpr) (b : Bool)
+    → aggregate_places (cond b (digits c s x) x) ≡ aggregate_places x
+digits_places c s x true = (over (node.NumberText (connection_set c s) x)
+    (Node-F.NumberText (connection_set c s) x) (Str (of_number c s))
+    (node.outs-NumberText (connection_set c s) x) refl).places
+    ∙ append-nil (aggregate_places x)
+digits_places c s x false = refl
+
+pub text_places : (c : Catalog) (s : Scope) (x : TypedExpr)
+    → aggregate_places (as_text c s x) ≡ aggregate_places x
+text_places c s x = digits_places c s x (is_number x.ty)
+
 text_over : (c : Catalog) (s : Scope) (x y : TypedExpr) → IsOver false (as_text c s x ∷ []) y
     → IsOver false (x ∷ []) y
 text_over c s x y h = record {
   and = h.and;
   types = h.types ∙ ap (λ types. types ++ []) (text_types c s x);
+  places = h.places ∙ ap (λ places. places ++ []) (text_places c s x);
 }
 
 text_built : (c : Catalog) (s : Scope) (x : TypedExpr) (t : Typing)

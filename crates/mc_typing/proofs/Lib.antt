@@ -21,6 +21,7 @@ pub mod Known
 pub mod SoundTrees
 pub mod SoundInduction
 pub mod Ungrouped
+pub mod AggregatePlaces
 pub mod SoundTexts
 pub mod SoundOperands
 pub mod SoundOperators

@@ -7,7 +7,7 @@ use Rattle.std.proofs.lemmas.List.{length-append, length-map}
 use Rattle.std.proofs.lemmas.List.Elements.{All-from_recursion}
 use Rattle.std.proofs.lemmas.List.Quantifiers.{position-Some}
 use Rattle.std.specs.Prelude.{IfOk, Ok, Err, codes, position, slice_get, unwrap_or}
-use Rattle.std.specs.List.{AllByRecursion, flat_map, list_any}
+use Rattle.std.specs.List.{AllByRecursion, flat_map, list_any, range_with_len}
 use Rattle.std.specs.Option.{option_map_or}
 use Rattle.std.specs.Str.{bytes_eq}
 use Rattle.mc_base.specs.Results.{result_and_then}
@@ -29,6 +29,7 @@ use Rattle.mc_typing.specs.declared.typed.Ty.{Ty}
 use Rattle.mc_typing.specs.declared.typed.Typed.{Typed}
 use Rattle.mc_typing.specs.declared.typed.TypedExpr.{TypedExpr}
 use Rattle.mc_typing.specs.declared.typed.TypedOrder.{TypedOrder}
+use Rattle.mc_typing.specs.AggregatePlaces.{aggregate_places}
 use Rattle.mc_typing.specs.AggregateTypes.{aggregate_types}
 use Rattle.mc_typing.specs.Aggregates.{aggregate_count, total}
 use Rattle.mc_typing.specs.Columns.{column_at}
@@ -46,6 +47,7 @@ use Rattle.mc_typing.specs.Statements.{is_grouped, is_int, item_expr, items_coun
 use Rattle.mc_typing.specs.Statements.{order_count, order_keys, order_typing, own_order, own_place}
 use Rattle.mc_typing.specs.Statements.{scope_in, star_columns, star_from, star_items, typed_all}
 use Rattle.mc_typing.specs.Statements.{typed_in, typed_of, typed_statement, where_of}
+use Rattle.mc_typing.proofs.AggregatePlaces.{numbers_append}
 use Rattle.mc_typing.proofs.Built.{over}
 use Rattle.mc_typing.proofs.Known.{Known}
 use Rattle.mc_typing.proofs.SoundColumns.{column_at_sound}
@@ -119,6 +121,24 @@ star_types c place (d ∷ columns) =
     (over (node.Column place) (Node-F.Column place) (column_at c place d).ty
     (node.outs-Column place) refl).types
     ∙ star_types c (place + 1) columns
+
+-- Places of lists
+places_append : (xs ys : List TypedExpr) → flat_map aggregate_places (xs ++ ys)
+    ≡ flat_map aggregate_places xs ++ flat_map aggregate_places ys
+places_append [] ys = refl
+places_append (x ∷ xs) ys =
+    ap (λ l. aggregate_places x ++ l) (places_append xs ys)
+    ∙ sym (append_assoc (aggregate_places x) (flat_map aggregate_places xs)
+    (flat_map aggregate_places ys))
+
+star_places : (c : Catalog) (place : ℕ) (columns : List ColumnDecl)
+    → flat_map aggregate_places (star_from c place columns) ≡ []
+star_places c place [] = refl
+star_places c place (d ∷ columns) =
+    ap (λ l. l ++ flat_map aggregate_places (star_from c (place + 1) columns))
+    (over (node.Column place) (Node-F.Column place) (column_at c place d).ty
+    (node.outs-Column place) refl).places
+    ∙ star_places c (place + 1) columns
 
 -- A statement that isn't grouped
 not_false : (b : Bool) → not b ≡ false → b ≡ true
@@ -281,7 +301,11 @@ module _ (known : Known) (c : Catalog) (s : Scope) (scope : IsScope c s) where
   abbrev key_types : List TypedOrder → List Ty
   key_types keys = flat_map (λ o. aggregate_types o.expr) keys
 
+  abbrev key_places : List TypedOrder → List ℕ
+  key_places keys = flat_map (λ o. aggregate_places o.expr) keys
+
   record AreKeys (place : Place) (number : ℕ) (keys : List TypedOrder) : Type 0 where
+    pub places : key_places keys ≡ range_with_len number (length (key_types keys))
     pub row : place ≡ Row → key_types keys ≡ []
     pub sound : (aggregates : List Ty) → HasFrom aggregates number (key_types keys)
         → AllByRecursion (λ o. Sound aggregates o.expr) keys
@@ -302,6 +326,11 @@ module _ (known : Known) (c : Catalog) (s : Scope) (scope : IsScope c s) where
       → AreKeys place (number + count) keys
       → AreKeys place number (record { expr = x; desc = desc } ∷ keys)
   key_joined place number count desc x keys w k = record {
+    places = ap (λ l. l ++ key_places keys) w.places
+        ∙ (ap (λ l. range_with_len number count ++ l) k.places
+        ∙ (numbers_append number count (length (key_types keys))
+        ∙ ap (λ n. range_with_len number n) (ap (λ n. n + length (key_types keys)) (sym w.many)
+        ∙ sym (length-append (aggregate_types x) (key_types keys)))));
     row = λ p. ap (λ l. l ++ key_types keys) (w.row p) ∙ k.row p;
     sound = λ all h. (
       (w.sound all (from_front all number (aggregate_types x) (key_types keys) h)).1,
@@ -313,7 +342,8 @@ module _ (known : Known) (c : Catalog) (s : Scope) (scope : IsScope c s) where
   keys_sound : (groups : List Expr) (place : Place) (items : List Item) (number : ℕ)
       (os : List OrderItem)
       → IfOk (order_keys c s groups place items number os) (AreKeys place number)
-  keys_sound groups place items number [] = record { row = λ p. refl; sound = λ all h. tt }
+  keys_sound groups place items number [] =
+      record { places = refl; row = λ p. refl; sound = λ all h. tt }
   keys_sound groups place items number (o ∷ os) =
       let count = order_count items o.expr in
       let rest = order_keys c s groups place items (number + count) os in
@@ -364,6 +394,30 @@ module _ (known : Known) (c : Catalog) (s : Scope) (scope : IsScope c s) where
       k.sound all (subst (λ n. HasFrom all n (key_types keys))
       (from_zero (length own) ∙ i.well.many) (from_behind all 0 own (key_types keys) here))
 
+  places_in : (statement : Statement) (items : List TypedExpr) (i : AreItems statement items)
+      (keys : List TypedOrder) (all : List Ty)
+      → AreKeys (own_place statement) (items_count statement) keys
+      → all ≡ flat_map aggregate_types i.own ++ key_types keys
+      → flat_map aggregate_places items ++ key_places keys ≡ range_with_len 0 (length all)
+  places_in statement items i keys all k e =
+      let columns = star_columns c s statement.star in
+      let count = items_count statement in
+      let own : flat_map aggregate_places items ≡ range_with_len 0 count =
+      ap (flat_map aggregate_places) i.is
+      ∙ (places_append (star_from c 0 columns) i.own
+      ∙ (ap (λ l. l ++ flat_map aggregate_places i.own) (star_places c 0 columns)
+      ∙ i.well.places)) in
+      let many : count + length (key_types keys) ≡ length all =
+      ap (λ n. n + length (key_types keys)) (sym i.well.many)
+      ∙ (sym (length-append (flat_map aggregate_types i.own) (key_types keys))
+      ∙ ap (λ l. length l) (sym e)) in
+      ap (λ l. l ++ key_places keys) own
+      ∙ (ap (λ l. range_with_len 0 count ++ l) k.places
+      ∙ (ap (λ n. range_with_len 0 count ++ range_with_len n (length (key_types keys)))
+      (sym (from_zero count))
+      ∙ (numbers_append 0 count (length (key_types keys))
+      ∙ ap (λ n. range_with_len 0 n) many)))
+
   made_statement : (script : List ℕ) (statement : Statement)
       (items conditions groups : List TypedExpr)
       (keys : List TypedOrder) → AreItems statement items → AreTruths conditions
@@ -389,6 +443,7 @@ module _ (known : Known) (c : Catalog) (s : Scope) (scope : IsScope c s) where
             (each (Fine []) (Sound []) (λ x h. h.1) groups g.0);
         orders = All-from_recursion (λ o. Sound all o.expr) keys
             (keys_in statement items i keys all k same);
+        places = places_in statement items i keys all k same;
         ungrouped = λ e. (
           none_left groups (g.2 ∙ ap (λ l. length l) (ungrouped_groups statement e)),
           same ∙ (ap (λ l. l ++ key_types keys) (i.well.row (ungrouped_place statement e))

@@ -3,7 +3,7 @@ use Rattle.std.proofs.Common.{◌≡◌, ℕ, suc, zero, ◌+◌, Bool, true, fa
 use Rattle.std.proofs.Common.{Option, None, Some, append-nil, append_assoc, length, length-append}
 use Rattle.std.proofs.Common.{refl, sym, ap, ◌∙◌, subst, arith}
 use Rattle.std.specs.Prelude.{IfOk, Result, Ok, Err, codes, slice_get}
-use Rattle.std.specs.List.{AllByRecursion, flat_map}
+use Rattle.std.specs.List.{AllByRecursion, flat_map, range_with_len}
 use Rattle.mc_ast.specs.declared.expr.Expr.{Expr}
 use Rattle.mc_ast.specs.declared.expr.Form.{Form, Form-F, out-Form}
 use Rattle.mc_catalog.specs.declared.catalog.Catalog.{Catalog}
@@ -21,6 +21,7 @@ use Rattle.mc_typing.specs.declared.typed.Node.TheVariants as node
 use Rattle.mc_typing.specs.declared.typed.Ty.{Ty}
 use Rattle.mc_typing.specs.declared.typed.Ty.TheVariants.{Int}
 use Rattle.mc_typing.specs.declared.typed.TypedExpr.{TypedExpr}
+use Rattle.mc_typing.specs.AggregatePlaces.{aggregate_places, own_places}
 use Rattle.mc_typing.specs.AggregateTypes.{aggregate_types, is_aggregate_node, types_with}
 use Rattle.mc_typing.specs.Aggregates.{aggregate_count, aggregate_expr, aggregate_of}
 use Rattle.mc_typing.specs.Aggregates.{aggregate_ty, count_all, form_count, is_aggregate}
@@ -37,7 +38,9 @@ use Rattle.mc_typing.specs.Places.{place_at, place_below}
 use Rattle.mc_typing.specs.Scope.{IsScope}
 use Rattle.mc_typing.specs.Sound.{IsAggregateTy, IsDistinctIn}
 use Rattle.mc_typing.specs.SoundStatements.{row_types}
-use Rattle.mc_typing.proofs.Built.{IsOver, const_over, is_and_form, node_built, text_types}
+use Rattle.mc_typing.proofs.AggregatePlaces.{aggregate_places_is, numbers_append}
+use Rattle.mc_typing.proofs.Built.{IsOver, const_over, is_and_form, node_built, text_places}
+use Rattle.mc_typing.proofs.Built.{text_types}
 use Rattle.mc_typing.proofs.Known.{Known}
 use Rattle.mc_typing.proofs.SoundCalls.{eq_to}
 use Rattle.mc_typing.proofs.SoundNodes.{node_good}
@@ -92,6 +95,10 @@ padded (suc n) = ap suc (padded n)
 const_types : (v : Value) (ty : Ty) → aggregate_types (record { node = node.Const v; ty = ty }) ≡ []
 const_types v ty = (const_over v ty).types
 
+const_places : (v : Value) (ty : Ty)
+    → aggregate_places (record { node = node.Const v; ty = ty }) ≡ []
+const_places v ty = (const_over v ty).places
+
 own_types : (n : Node) (l : Node-F Node TypedExpr) (ty : Ty) → out-Node n ≡ l
     → is_aggregate_node l ≡ true
     → aggregate_types (record { node = n; ty = ty })
@@ -100,6 +107,18 @@ own_types n l ty e h = aggregate_types_is (record { node = n; ty = ty })
     ∙ (ap (λ (m : Node-F Node TypedExpr).
     types_with (is_aggregate_node m) (flat_map aggregate_types (node_parts m)) ty) e
     ∙ ap (λ b. types_with b (flat_map aggregate_types (node_parts l)) ty) h)
+
+places_own : (n : Node) (l : Node-F Node TypedExpr) (ty : Ty) → out-Node n ≡ l
+    → aggregate_places (record { node = n; ty = ty })
+    ≡ flat_map aggregate_places (node_parts l) ++ own_places l
+places_own n l ty e = aggregate_places_is (record { node = n; ty = ty })
+    ∙ ap (λ (m : Node-F Node TypedExpr).
+    flat_map aggregate_places (node_parts m) ++ own_places m) e
+
+turned_places : (c : Catalog) (s : Scope) (b : Bool) (x : TypedExpr)
+    → aggregate_places (turned c s b x) ≡ aggregate_places x
+turned_places c s true x = text_places c s x
+turned_places c s false x = refl
 
 turned_types : (c : Catalog) (s : Scope) (b : Bool) (x : TypedExpr)
     → aggregate_types (turned c s b x) ≡ aggregate_types x
@@ -110,10 +129,11 @@ module _ (known : Known) (c : Catalog) (s : Scope) (scope : IsScope c s) where
   abbrev pub Fine : List Ty → TypedExpr → Type 0
   Fine aggregates x = IsFine c (row_types c s.table) aggregates x
 
-  -- Typed at a place and from a number on, with so many aggregates: in a row there are none, and
-  -- the expression is sound where they have their types.
+  -- Typed at a place and from a number on, with so many aggregates, whose places go on from that
+  -- number: in a row there are none, and the expression is sound where they have their types.
   pub record IsWell (place : Place) (number count : ℕ) (x : TypedExpr) : Type 0 where
     pub many : length (aggregate_types x) ≡ count
+    pub places : aggregate_places x ≡ range_with_len number count
     pub row : place ≡ Row → aggregate_types x ≡ []
     pub sound : (aggregates : List Ty) → HasFrom aggregates number (aggregate_types x)
         → Fine aggregates x
@@ -122,6 +142,7 @@ module _ (known : Known) (c : Catalog) (s : Scope) (scope : IsScope c s) where
   pub record AreWell (place : Place) (number count : ℕ) (taker : Option Callee) (from size : ℕ)
       (xs : List TypedExpr) : Type 0 where
     pub many : length (flat_map aggregate_types xs) ≡ count
+    pub places : flat_map aggregate_places xs ≡ range_with_len number count
     pub row : place ≡ Row → flat_map aggregate_types xs ≡ []
     pub as_many : length xs ≡ size
     pub sound : (aggregates : List Ty)
@@ -148,6 +169,10 @@ module _ (known : Known) (c : Catalog) (s : Scope) (scope : IsScope c s) where
         record {
           many = length-append (aggregate_types y) more
               ∙ (ap (λ n. n + length more) many ∙ ap (λ n. count + n) rest.many);
+          places = ap (λ l. l ++ flat_map aggregate_places xs)
+              (turned_places c s (turns_to_text taker from) x ∙ own.places)
+              ∙ (ap (λ l. range_with_len number count ++ l) rest.places
+              ∙ numbers_append number count others);
           row = λ p. ap (λ l. l ++ more) (same ∙ own.row p) ∙ rest.row p;
           as_many = ap suc rest.as_many;
           sound = λ all h.
@@ -169,6 +194,7 @@ module _ (known : Known) (c : Catalog) (s : Scope) (scope : IsScope c s) where
         (AreWell place number (total aggregate_count es) taker from (length es))
     operands_well taker from number [] h = record {
       many = refl;
+      places = refl;
       row = λ p. refl;
       as_many = refl;
       sound = λ all k. (tt, (λ n d lt e. absurd (omega (arith, lt))), refl);
@@ -197,6 +223,7 @@ module _ (known : Known) (c : Catalog) (s : Scope) (scope : IsScope c s) where
   plain_well place below number count size taker b xs (Err r) p w o g = tt
   plain_well place below number count size taker b xs (Ok x) p w o g = record {
     many = ap (λ l. length l) o.types ∙ w.many;
+    places = o.places ∙ w.places;
     row = λ e. o.types ∙ w.row (p e);
     sound = λ all h. g all (w.sound all (subst (HasFrom all number) o.types h));
   }
@@ -206,6 +233,7 @@ module _ (known : Known) (c : Catalog) (s : Scope) (scope : IsScope c s) where
       → IsWell place number 0 (shown c which a)
   const_well place number which a = record {
     many = ap (λ l. length l) (none which);
+    places = nowhere which;
     row = λ p. none which;
     sound = λ all h. shown_sound known c s scope all which a;
   }
@@ -214,6 +242,11 @@ module _ (known : Known) (c : Catalog) (s : Scope) (scope : IsScope c s) where
       none callee.Charset = const_types _ _
       none callee.Collation = const_types _ _
       none which = const_types _ _
+
+      nowhere : (which : Callee) → aggregate_places (shown c which a) ≡ []
+      nowhere callee.Charset = const_places _ _
+      nowhere callee.Collation = const_places _ _
+      nowhere which = const_places _ _
 
   shown_well : (place at : Place) (number own : ℕ) (name : List ℕ) (which : Option Callee)
       (xs : List TypedExpr) → shows_type which ≡ true
@@ -249,6 +282,9 @@ module _ (known : Known) (c : Catalog) (s : Scope) (scope : IsScope c s) where
       (Node-F.Aggregate Count false None own) Int (node.outs-Aggregate Count false None own) refl in
       record {
         many = ap (λ l. length l) types;
+        places = places_own (node.Aggregate Count false None own)
+            (Node-F.Aggregate Count false None own) Int (node.outs-Aggregate Count false None own)
+            ∙ ap (λ n. n ∷ []) e;
         row = λ p. absurd (away p);
         sound = λ all h.
             let at : HasFrom all number (Int ∷ []) = subst (HasFrom all number) types h in
@@ -290,6 +326,12 @@ module _ (known : Known) (c : Catalog) (s : Scope) (scope : IsScope c s) where
       (node.outs-Aggregate name distinct (Some x) own) refl ∙ ap (λ l. l ++ ty ∷ []) none in
       record {
         many = ap (λ l. length l) types ∙ ap (λ n. n + 1) zero_count;
+        places = places_own (node.Aggregate name distinct (Some x) own)
+            (Node-F.Aggregate name distinct (Some x) own) ty
+            (node.outs-Aggregate name distinct (Some x) own)
+            ∙ (ap (λ l. l ++ own ∷ []) w.places
+            ∙ (ap (λ n. range_with_len number count ++ n ∷ []) e
+            ∙ numbers_append number count 1));
         row = λ p. absurd (away p);
         sound = λ all h.
             let at : HasFrom all number (ty ∷ []) = subst (HasFrom all number) types h in
@@ -426,7 +468,7 @@ module _ (known : Known) (c : Catalog) (s : Scope) (scope : IsScope c s) where
     outer : (place own : Place) (number count : ℕ) (t : Typing) → (place ≡ Row → own ≡ Row)
         → IfOk t (IsWell own number count) → IfOk t (IsWell place number count)
     outer place own number count (Ok x) p w =
-        record { many = w.many; row = λ e. w.row (p e); sound = w.sound }
+        record { many = w.many; places = w.places; row = λ e. w.row (p e); sound = w.sound }
     outer place own number count (Err r) p w = tt
 
     step : (e : Expr) → AllByRecursion IsGood (parts (out-Form e.form)) → IsGood e

@@ -19,7 +19,7 @@ mapped_aggregate : {X A Y B : Type 0} (f : X → Y) (g : A → B) (l : Node-F X 
 mapped_aggregate f g (Node-F.Const v) = refl
 mapped_aggregate f g l = refl
 
-flat_mapped : {A B C : Type 0} (f : B → List C) (g : A → B) (xs : List A)
+pub flat_mapped : {A B C : Type 0} (f : B → List C) (g : A → B) (xs : List A)
     → flat_map f (map g xs) ≡ flat_map (λ x. f (g x)) xs
 flat_mapped f g [] = refl
 flat_mapped f g (x ∷ xs) = ap (λ ys. f (g x) ++ ys) (flat_mapped f g xs)

@@ -17,11 +17,11 @@ pub mod Exprs
 pub mod Walk
 pub mod FirstRefused
 pub mod Statements
-pub mod Grouping
 pub mod Gathered
 pub mod Whole
 pub mod OfType
 pub mod Parts
 pub mod AggregateTypes
+pub mod AggregatePlaces
 pub mod Sound
 pub mod SoundStatements

@@ -1,6 +1,6 @@
 -- The typed statement of a tree, or its refusal: MySQL 8.0 manual, 13.2.10. Its parts are taken in
 -- the order table, items, WHERE, GROUP BY, ORDER BY.
-use Rattle.std.specs.Prelude.{◌≡◌, ℕ, ◌+◌, ◌-◌, Bool, true, false, not, ◌||◌, List, [], ◌∷◌, ◌++◌}
+use Rattle.std.specs.Prelude.{ℕ, ◌+◌, ◌-◌, Bool, true, false, not, ◌||◌, List, [], ◌∷◌, ◌++◌}
 use Rattle.std.specs.Prelude.{Option, Some, None, Result, Ok, Err, codes, drop, map, option_map}
 use Rattle.std.specs.Prelude.{position, take, unwrap_or}
 use Rattle.std.specs.Prelude.{if◌then◌else◌}
@@ -233,10 +233,3 @@ scope_in c session (Some name) =
 unfoldable pub typed_statement : List ℕ → Statement → Catalog → Session → Result Typed Refusal
 typed_statement script statement c session =
     result_and_then (typed_in script statement c) (scope_in c session statement.table)
-
--- No aggregate and no GROUP BY stands in the statement.
-pub record IsUngrouped (statement : Statement) : Type 0 where
-  pub groups : statement.groups ≡ []
-  pub items : list_any (λ item. has_aggregate item.expr) statement.items ≡ false
-  pub filter : option_map_or has_aggregate statement.filter false ≡ false
-  pub orders : list_any (λ o. has_aggregate o.expr) statement.orders ≡ false

@@ -1,17 +1,13 @@
 ghost use Rattle.mc_ast.specs.declared.expr.Form.TheViews.{out-Form};
 ghost use Rattle.mc_typing.specs.Forms.{parts};
-ghost use Rattle.mc_typing.specs.Grouping.{is_ungrouped};
 ghost use Rattle.mc_typing.specs.Statements.{
-  IsUngrouped,
   has_aggregate,
   has_no_groups,
   is_grouped,
   own_place,
 };
-ghost use Rattle.std.specs.Bool.{OnTrue};
 ghost use Rattle.std.specs.List.{list_any};
-ghost use Rattle.std.specs.Option.{option_map_or};
-ghost use Rattle.std.specs.Prelude.{◌≡◌, [], ◌∷◌, false};
+ghost use Rattle.std.specs.Prelude.{◌≡◌, [], ◌∷◌};
 
 use crate::place::Place;
 use crate::places::is_aggregate_form;
@@ -132,16 +128,6 @@ fn in_items(items: &[Item]) -> bool
     false
 }
 
-/// Whether an aggregate stands in WHERE.
-fn in_filter(filter: &Option<Expr>) -> bool
-    ensures { result ≡ option_map_or has_aggregate filter.now false }
-{
-    match filter {
-        Some(e) => has_aggregate(e),
-        None => false,
-    }
-}
-
 /// Whether an aggregate stands in one of these keys.
 fn in_orders(orders: &[OrderItem]) -> bool
     ensures { result ≡ list_any (λ o. has_aggregate o.expr) orders.now }
@@ -159,18 +145,6 @@ fn has_no_groups(groups: &[Expr]) -> bool
     ensures { result ≡ has_no_groups groups.now }
 {
     groups.is_empty()
-}
-
-/// Whether no aggregate and no GROUP BY stands in a statement: MySQL 8.0 manual, 12.19.3.
-#[tactic(auto, unfolding(crate::specs::Grouping::is_ungrouped))]
-pub fn is_ungrouped(statement: &Statement) -> bool
-    ensures is { result ≡ is_ungrouped statement.now }
-    ensures ungrouped { OnTrue result (IsUngrouped statement.now) }
-{
-    has_no_groups(statement.groups.as_slice())
-        && !in_items(statement.items.as_slice())
-        && !in_filter(&statement.filter)
-        && !in_orders(statement.orders.as_slice())
 }
 
 /// Whether a statement's rows are grouped: by GROUP BY, or into one group by an aggregate among its

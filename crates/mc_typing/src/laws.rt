@@ -2,6 +2,7 @@ ghost use Rattle.mc_ast.specs.declared.expr.Expr.{Expr};
 ghost use Rattle.mc_ast.specs.declared.statement.Statement.{Statement};
 ghost use Rattle.mc_catalog.specs.Lawful.{IsLawful};
 ghost use Rattle.mc_catalog.specs.declared.catalog.Catalog.{Catalog};
+ghost use Rattle.mc_typing.specs.AggregatePlaces.{aggregate_places, own_places};
 ghost use Rattle.mc_typing.specs.AggregateTypes.{
   aggregate_types,
   is_aggregate_node,
@@ -12,7 +13,11 @@ ghost use Rattle.mc_typing.specs.Operands.{IsTyOf};
 ghost use Rattle.mc_typing.specs.Parts.{node_parts};
 ghost use Rattle.mc_typing.specs.Scope.{IsScope};
 ghost use Rattle.mc_typing.specs.Sound.{IsSound, IsSoundNode};
-ghost use Rattle.mc_typing.specs.SoundStatements.{IsSoundStatement};
+ghost use Rattle.mc_typing.specs.SoundStatements.{
+  IsSoundStatement,
+  statement_aggregates,
+  statement_places,
+};
 ghost use Rattle.mc_typing.specs.Statements.{typed_statement};
 ghost use Rattle.mc_typing.specs.declared.place.Place.{Place};
 ghost use Rattle.mc_typing.specs.declared.scope.Scope.{Scope};
@@ -21,8 +26,20 @@ ghost use Rattle.mc_typing.specs.declared.typed.Node.{Node, Node-F, out-Node, ro
 ghost use Rattle.mc_typing.specs.declared.typed.Ty.{Ty};
 ghost use Rattle.mc_typing.specs.declared.typed.Typed.{Typed};
 ghost use Rattle.mc_typing.specs.declared.typed.TypedExpr.{TypedExpr};
-ghost use Rattle.std.specs.List.{flat_map};
-ghost use Rattle.std.specs.Prelude.{◌≡◌, ◌<◌, ℕ, [], All, Bool, List, Ok, length, true};
+ghost use Rattle.std.specs.List.{flat_map, range_with_len};
+ghost use Rattle.std.specs.Prelude.{
+  ◌≡◌,
+  ◌<◌,
+  ◌++◌,
+  ℕ,
+  [],
+  All,
+  Bool,
+  List,
+  Ok,
+  length,
+  true,
+};
 
 use mc_charset::{chars_law, set_names_law};
 use mc_coerce::{operands_law, result_law};
@@ -57,7 +74,8 @@ pub fn typing_law()
 /// takes its operands, and each of these is sound. A test that a sound expression passes wherever
 /// its operands pass it is passed by each. The aggregates of an expression are those of its
 /// operands, and itself where it is one; over no aggregates none stands in a sound expression, and
-/// one without aggregates is sound over any.
+/// one without aggregates is sound over any. The places of a sound statement's aggregates, in
+/// their order, are 0, 1 and so on.
 pub fn sound_law()
     ensures typed { (c : Catalog) (columns aggregates : List Ty) (x : TypedExpr)
         → IsSound c columns aggregates x → IsTyOf c x.ty }
@@ -78,6 +96,11 @@ pub fn sound_law()
     ensures types { (x : TypedExpr)
         → aggregate_types x ≡ types_with (is_aggregate_node (out-Node x.node))
         (flat_map aggregate_types (node_parts (out-Node x.node))) x.ty }
+    ensures places { (x : TypedExpr)
+        → aggregate_places x ≡ flat_map aggregate_places (node_parts (out-Node x.node))
+        ++ own_places (out-Node x.node) }
+    ensures numbered { (c : Catalog) (t : Typed) → IsSoundStatement c t
+        → statement_places t ≡ range_with_len 0 (length (statement_aggregates t)) }
     ensures none { (c : Catalog) (columns : List Ty) (x : TypedExpr)
         → IsSound c columns [] x → aggregate_types x ≡ [] }
     ensures any { (c : Catalog) (columns aggregates others : List Ty) (x : TypedExpr)

@@ -53,7 +53,6 @@ mod typed;
 mod walk;
 
 pub use fault::TypeFault;
-pub use grouping::is_ungrouped;
 pub use laws::{sound_law, typing_law};
 pub use likeness_law::likeness_up_to_spans;
 pub use order_law::order_of_refusals;
