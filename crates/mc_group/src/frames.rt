@@ -12,8 +12,8 @@ ghost use Rattle.std.specs.Str.{bytes_eq};
 
 use crate::kind::KeyKind;
 use indexmap::IndexSet;
-use mc_base::NoMemory;
-use mc_key::make_key;
+use mc_base::{NoMemory, Weights};
+use mc_key::put_key;
 use mc_order::{Book, Collation};
 use mc_values::Value;
 use std::alloc::Global;
@@ -96,9 +96,10 @@ fn push_null(frame: &mut Vec<u32>) -> Result<(), NoMemory>
     Ok(())
 }
 
-/// Appends the numbers of a text: of what a key keeps of its weights.
+/// Appends the numbers of a text: of what a key keeps of its weights, which are
+/// put in place of those in `kept`.
 fn push_text<C: Collation>(
-    alloc: Global,
+    kept: &mut Weights,
     frame: &mut Vec<u32>,
     collation: &C,
     text: &[u8],
@@ -109,15 +110,16 @@ fn push_text<C: Collation>(
         IfOk result
         (λ _. frame.new.items ≡ frame.old.items ++ cell_frame (cell.Weights kept)) }
 {
-    match make_key(alloc, collation, text, None) {
-        Ok(key) => push_weights(frame, key.as_slice()),
+    kept.truncate(0);
+    match put_key(collation, text, kept) {
+        Ok(()) => push_weights(frame, kept.as_slice()),
         Err(error) => Err(error),
     }
 }
 
 /// Appends the numbers of a value.
 fn push_value<B: Book>(
-    alloc: Global,
+    kept: &mut Weights,
     frame: &mut Vec<u32>,
     book: &B,
     kind: KeyKind,
@@ -134,14 +136,14 @@ fn push_value<B: Book>(
         (KeyKind::Int, Value::Str { .. }) => push_number(frame, 0),
         (KeyKind::Text(_), Value::Int(_)) => push_null(frame),
         (KeyKind::Text(id), Value::Str { text, .. }) => {
-            push_text(alloc, frame, book.by_id(id), text.as_slice())
+            push_text(kept, frame, book.by_id(id), text.as_slice())
         }
     }
 }
 
 /// Appends the numbers of the value of a row at a place.
 fn push_at<B: Book>(
-    alloc: Global,
+    kept: &mut Weights,
     frame: &mut Vec<u32>,
     book: &B,
     kind: KeyKind,
@@ -154,7 +156,7 @@ fn push_at<B: Book>(
         ≡ frame.old.items ++ cell_frame (key_cell (B.meaning book.now) kind it)) }
 {
     match row.get(i) {
-        Some(value) => push_value(alloc, frame, book, kind, value),
+        Some(value) => push_value(kept, frame, book, kind, value),
         None => push_null(frame),
     }
 }
@@ -162,6 +164,7 @@ fn push_at<B: Book>(
 /// The numbers of a row.
 pub(crate) fn frame_of<B: Book>(
     alloc: Global,
+    kept: &mut Weights,
     book: &B,
     kinds: &[KeyKind],
     row: &[Value],
@@ -173,7 +176,7 @@ pub(crate) fn frame_of<B: Book>(
 {
     let mut frame = Vec::new(alloc);
     for (i, kind) in kinds.iter().enumerate() {
-        push_at(alloc, &mut frame, book, *kind, row, i)?;
+        push_at(kept, &mut frame, book, *kind, row, i)?;
     }
     Ok(frame)
 }

@@ -9,7 +9,7 @@ ghost use Rattle.std.specs.Str.{bytes_eq};
 use crate::frames::{Frames, frame_of};
 use crate::kind::KeyKind;
 use crate::order::place_at;
-use mc_base::{List, NoMemory};
+use mc_base::{List, NoMemory, Weights};
 use mc_key::key_laws;
 use mc_order::Book;
 use mc_values::Row;
@@ -18,6 +18,7 @@ use std::alloc::Global;
 /// The number of the group of the row at a place, whose frame is added where it is not there.
 fn number_of<B: Book>(
     alloc: Global,
+    kept: &mut Weights,
     seen: &mut Frames,
     book: &B,
     kinds: &[KeyKind],
@@ -34,7 +35,7 @@ fn number_of<B: Book>(
         (slice_index_or keys.now i []) in
         OnOk result (seen.new ≡ insert_key bytes_eq seen.old frame) }
 {
-    let frame = frame_of(alloc, book, kinds, keys[i].as_slice())?;
+    let frame = frame_of(alloc, kept, book, kinds, keys[i].as_slice())?;
     let place = seen.place_of(frame)?;
     let number = place_at(place)?;
     Ok(number)
@@ -54,9 +55,10 @@ fn numbers_of<B: Book>(
 {
     key_laws();
     let mut seen = Frames::new(alloc);
+    let mut kept = Weights::new(alloc);
     let mut numbers = List::new(alloc);
     for i in 0..keys.len() {
-        let number = number_of(alloc, &mut seen, book, kinds, keys, i)?;
+        let number = number_of(alloc, &mut kept, &mut seen, book, kinds, keys, i)?;
         numbers.push(number)?;
     }
     Ok(numbers)
