@@ -1,5 +1,5 @@
 -- The items of all subjects, of which those that no earlier one has are picked.
-use Rattle.std.proofs.Common.{Some, None, ap, subst, sym}
+use Rattle.std.proofs.Common.{Some, None, refl, subst, sym}
 use Rattle.std.specs.Prelude.{IsTrue, Option, option_map, List}
 use Rattle.std.specs.Option.{is_some}
 use Rattle.mc_exec.specs.Given.{Subject, all_of}
@@ -16,15 +16,15 @@ put_firsts-requires-clause-rows g c =
     keys_filled given c.args.subjects.now c.new-rows.result c.new-rows.ensures
     (Some c.put_all_items.new.rows) c.in-Ok.ensures.told
 
-pub returns-in-Ok-in-Ok-clause-told : goal.returns-in-Ok-in-Ok-clause-told
-returns-in-Ok-in-Ok-clause-told g c =
+pub returns-in-Ok-put_firsts-clause-told : goal.returns-in-Ok-put_firsts-clause-told
+returns-in-Ok-put_firsts-clause-told g c =
     let m = g.B.Book.meaning c.args.book.now in
     let q = c.args.q.now in
     let given = λ (s : Subject). option_map (λ (l : Line). l.items) (line_in m q s) in
     let ls = lines_of_items (line_in m q) c.args.subjects.now c.put_all_items.new.rows
     (keys_filled given c.args.subjects.now c.new-rows.result c.new-rows.ensures
     (Some c.put_all_items.new.rows) c.in-Ok.ensures.told) in
-    subst (λ (o : Option (List Line)). IsTrue (is_some o)) (sym ls.1) tt
+    subst (λ (o : Option (List Line)). IsTrue (is_some o)) (sym ls.1) refl
 
 pub returns-clause-told : goal.returns-clause-told
 returns-clause-told g c =
