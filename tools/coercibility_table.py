@@ -1,8 +1,8 @@
 #!/usr/bin/env python3
-"""Prints the tables of mc_coerce's tests, worked out from the rules in docs/SQL.md.
+"""Prints the tables of mc_coerce_tests, worked out from the rules in docs/SQL.md.
 
-    coercibility_table.py pairs > crates/mc_coerce/src/pair_rows.rt
-    coercibility_table.py lists > crates/mc_coerce/src/list_rows.rt
+    coercibility_table.py pairs > crates/mc_coerce_tests/src/pair_rows.rt
+    coercibility_table.py lists > crates/mc_coerce_tests/src/list_rows.rt
 
 They are laid out as `rt fmt` does. The answers come from the rules alone, by every pair of operands:
 nothing here is shared with the crate, which goes over a list with one candidate. `.ci/run` compares

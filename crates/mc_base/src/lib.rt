@@ -31,8 +31,6 @@ mod real_sink;
 mod refusal;
 mod span;
 mod steps;
-#[cfg(test)]
-mod tests;
 mod whole;
 
 pub use boxed::Boxed;

@@ -14,15 +14,11 @@
 
 mod any_collation;
 mod book;
-#[cfg(test)]
-mod book_tests;
 mod build;
 mod elements;
 mod fault;
 mod kinds;
 mod table;
-#[cfg(test)]
-mod tests;
 
 pub use any_collation::AnyCollation;
 pub use book::AnyBook;

@@ -23,10 +23,6 @@ mod laws;
 mod names;
 mod put;
 mod spelling;
-#[cfg(test)]
-mod tests;
-#[cfg(test)]
-mod text_tests;
 mod utf8;
 mod well_formed;
 mod wide;

@@ -19,15 +19,9 @@ mod condition;
 mod demand;
 mod laws;
 mod levels;
-#[cfg(test)]
-mod list_rows;
 mod operand;
 mod pair;
-#[cfg(test)]
-mod pair_rows;
 mod sets;
-#[cfg(test)]
-mod tests;
 
 pub use aggregates::{aggregate, takes_part};
 pub use condition::are_operands;

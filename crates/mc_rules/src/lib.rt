@@ -10,8 +10,6 @@ mod family;
 mod jamo;
 mod laws;
 mod put_outside;
-#[cfg(test)]
-mod tests;
 mod unlisted;
 
 pub use family::UcaFamily;

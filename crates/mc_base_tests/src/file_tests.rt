@@ -1,4 +1,4 @@
-use crate::{
+use mc_base::{
     FileFault, LineReader, List, MemFiles, MemSink, NoMemory, PutAnswer, ReadWhole, RealFiles,
     RealSink, Sink, Text, hex_number, next_field, read_file, read_whole,
 };

@@ -1,5 +1,5 @@
-use super::*;
 use mc_base::Text;
+use mc_charset::{Charset, PutChar, byte_of, char_count, char_start, is_well_formed, put_char};
 
 /// How many characters a text has, and where character `k` begins.
 struct Counted {

@@ -1,5 +1,5 @@
-use crate::{AnyBook, BookFault, build_book, declares_built_kinds};
 use mc_base::{FileRefusal, List, MemFiles, NoMemory, Text};
+use mc_book::{AnyBook, BookFault, build_book, declares_built_kinds};
 use mc_catalog::read_catalog;
 use mc_charset::{CollId, is_well_formed};
 use mc_order::{Book, Collation};

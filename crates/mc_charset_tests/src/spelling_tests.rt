@@ -1,5 +1,8 @@
-use super::*;
 use mc_base::Text;
+use mc_charset::{
+    CharAt, Charset, CollId, bin_of, charset_by_name, charset_name, has_char, is_unicode,
+    is_well_formed, next_char, put_char, same_set,
+};
 
 /// The one character that a text is, or `None` where no spelling begins it.
 struct Row {

@@ -1,8 +1,8 @@
 use crate::list_rows::{BYTES, COLUMNS, FOUR, Row, SHORT, UNICODE};
 use crate::pair_rows::{ASCII, BINARY, LATIN1, ONE_SET, UTF8, WIDE};
-use crate::{Agg, Operand, Purpose, aggregate, are_operands, beats};
 use mc_base::{List, NoMemory, hex_number, next_field};
 use mc_charset::{Charset, CollId, bin_of, charset_by_name};
+use mc_coerce::{Agg, Operand, Purpose, aggregate, are_operands, beats};
 use mc_convert::Repertoire;
 use std::alloc::Global;
 

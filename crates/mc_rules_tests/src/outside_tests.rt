@@ -1,6 +1,6 @@
-use crate::{UcaFamily, outside};
 use mc_allkeys::{Element, Keys, read_allkeys};
 use mc_base::{List, NoMemory};
+use mc_rules::{UcaFamily, outside};
 use std::alloc::Global;
 
 /// A code point without an entry, and its primary weights.

@@ -1,5 +1,5 @@
-use crate::AnyCollation;
 use mc_base::Weights;
+use mc_book::AnyCollation;
 use mc_charset::{CollId, is_well_formed};
 use mc_order::{BinCollation, Collation};
 use std::cmp::Ordering;

@@ -1,0 +1,6 @@
+//! Tests of `mc_base` by its public calls. They stand in a crate of their own, since a crate is
+//! proved once more with its tests.
+#![tactic(auto)]
+
+#[cfg(test)]
+mod file_tests;

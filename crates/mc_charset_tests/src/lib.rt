@@ -1,0 +1,8 @@
+//! Tests of `mc_charset` by its public calls. They stand in a crate of their own, since a crate is
+//! proved once more with its tests.
+#![tactic(auto)]
+
+#[cfg(test)]
+mod spelling_tests;
+#[cfg(test)]
+mod text_tests;
