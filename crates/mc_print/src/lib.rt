@@ -7,7 +7,7 @@
 //! can be told apart and each text can be read back. A refusal is `ERROR NUMBER: TEXT` in a line.
 //! `specs/Lines` says all this.
 //!
-//! Read the modules in this order: `escape`, `cell`, `table` (`answer_text`), `refused`
+//! Read the modules in this order: `escape`, `cell`, `table` (`answer_text`, `push_answer`), `refused`
 //! (`refusal_text`), `laws`.
 #![tactic(auto)]
 
@@ -19,4 +19,4 @@ mod table;
 
 pub use laws::escape_law;
 pub use refused::refusal_text;
-pub use table::answer_text;
+pub use table::{answer_text, push_answer};

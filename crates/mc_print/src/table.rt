@@ -17,17 +17,25 @@ const CELL_ROOM: usize = 8;
 
 /// The answer as it is written: a line of its headers and a line for each row. Its strings are
 /// texts of their sets.
-#[tactic(auto, unfolding(crate::specs::Lines::answer_text))]
 pub fn answer_text(alloc: Global, answer: &Answer) -> Result<Text, NoMemory>
     requires { All (All IsTextOfSet) answer.now.rows }
     ensures { IfOk result (λ text. text ≡ answer_text answer.now) }
 {
     let mut text = Text::new(alloc);
-    text.reserve(room(answer))?;
-    push_header(&mut text, answer.header.as_slice())?;
-    text.push(b'\n')?;
-    push_rows(alloc, &mut text, answer.rows.as_slice())?;
+    push_answer(alloc, &mut text, answer)?;
     Ok(text)
+}
+
+/// Appends the answer as it is written, so that one text can take many answers in turn.
+#[tactic(auto, unfolding(crate::specs::Lines::answer_text))]
+pub fn push_answer(alloc: Global, out: &mut Text, answer: &Answer) -> Result<(), NoMemory>
+    requires { All (All IsTextOfSet) answer.now.rows }
+    ensures { OnOk result (out.new ≡ out.old ++ answer_text answer.now) }
+{
+    out.reserve(room(answer))?;
+    push_header(out, answer.header.as_slice())?;
+    out.push(b'\n')?;
+    push_rows(alloc, out, answer.rows.as_slice())
 }
 
 /// About how many bytes the lines need.

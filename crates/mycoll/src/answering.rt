@@ -30,7 +30,7 @@ use crate::reading::read_statement;
 use crate::said::Said;
 use crate::unanswered::Unanswered;
 use mc_ast::Statement;
-use mc_base::{NoMemory, Sink, Span, Steps};
+use mc_base::{NoMemory, Sink, Span, Steps, Text};
 use mc_exec::{ExecFault, Tables, explain, select};
 use mc_order::Book;
 use mc_parse::outcomes_are_unique;
@@ -273,11 +273,12 @@ pub fn answer_script<B: Book, S: Sink, W, L>(
     ensures cause { StopCause result (S.faults out.old) (S.faults out.new) }
 {
     outcomes_are_unique();
+    let mut lines = Text::new(alloc);
     let mut refused = false;
     let mut from = 0;
     while let Some((statement, next)) = next_statement(script, from) {
         let said = answer_statement(alloc, tables, book, session, script, statement, work, steps)?;
-        refused |= write_said(alloc, said, out)?;
+        refused |= write_said(alloc, said, &mut lines, out)?;
         from = next;
     }
     Ok(refused)

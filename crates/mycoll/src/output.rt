@@ -5,8 +5,8 @@ ghost use Rattle.mycoll.specs.Answering.{Written, StopCause};
 ghost use Rattle.mycoll.specs.declared.output.Stopped.TheVariants.{NoMemory as OutOfMemory};
 
 use crate::said::Said;
-use mc_base::{NoMemory, PutAnswer, Sink};
-use mc_print::{answer_text, refusal_text};
+use mc_base::{NoMemory, PutAnswer, Sink, Text};
+use mc_print::{push_answer, refusal_text};
 use std::alloc::Global;
 
 /// Why writing stopped.
@@ -40,8 +40,14 @@ pub fn write_bytes<S: Sink>(out: &mut S, bytes: &[u8]) -> Result<(), Stopped>
 }
 
 /// Writes an answer in one call of the sink, or in none where nothing is said, and tells whether it
-/// is a refusal.
-pub fn write_said<S: Sink>(alloc: Global, said: Said, out: &mut S) -> Result<bool, Stopped>
+/// is a refusal. The lines of a table are made in `lines`, whatever that held, so that a script's
+/// answers take their memory once.
+pub fn write_said<S: Sink>(
+    alloc: Global,
+    said: Said,
+    lines: &mut Text,
+    out: &mut S,
+) -> Result<bool, Stopped>
     requires { HasTexts said }
     ensures later { S.faults out.old ≤ S.faults out.new }
     ensures told { Written (said_text said) result (S.written out.old) (S.written out.new) }
@@ -50,8 +56,9 @@ pub fn write_said<S: Sink>(alloc: Global, said: Said, out: &mut S) -> Result<boo
 {
     match said {
         Said::Table(answer) => {
-            let text = answer_text(alloc, &answer)?;
-            write_bytes(out, text.as_slice())?;
+            lines.truncate(0);
+            push_answer(alloc, lines, &answer)?;
+            write_bytes(out, lines.as_slice())?;
             Ok(false)
         }
         Said::Refused(refusal) => {
