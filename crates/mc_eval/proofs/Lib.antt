@@ -4,7 +4,6 @@ mod HeldLists
 mod HeldTexts
 mod HexAscii
 mod KeptConstants
-mod LentValues
 mod Loops
 mod NullCalls
 mod Pairs

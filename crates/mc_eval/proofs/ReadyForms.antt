@@ -173,8 +173,7 @@ pub comparison_value : (p : Place) (e : TypedExpr) (it : ColumnComparison)
     (value_at p.row it.place) (value.Str is.set is.text)
 comparison_value p e it is = sides_value p e it.op it.id it.text_first is.column is.constant
     (value_at p.row it.place) (value.Str is.set is.text) is.node
-    (has_value p is.column (Node-F.Column it.place) is.place)
-    (has_value p is.constant (Node-F.Const (value.Str is.set is.text)) is.literal)
+    (is.place p) (is.literal p)
 
 pub match_value : (p : Place) (e : TypedExpr) (it : ColumnMatch)
     (is : IsMatch p.meaning e it) → truth (value_of p e)
@@ -187,10 +186,8 @@ match_value p e it is =
     let w = value.Str is.set is.text in
     ap truth (has_value p e (Node-F.Like (Some it.id) (pair is.column is.constant) is.escape
     it.negated) is.node
-    ∙ ap (λ o. of_two f o (value_of p is.constant))
-    (has_value p is.column (Node-F.Column it.place) is.place)
-    ∙ ap (λ o. of_two f (gives v) o)
-    (has_value p is.constant (Node-F.Const (value.Str is.set is.text)) is.literal))
+    ∙ ap (λ o. of_two f o (value_of p is.constant)) (is.place p)
+    ∙ ap (λ o. of_two f (gives v) o) (is.literal p))
     ∙ truth_told (turned it.negated (liked p.meaning (Some it.id) is.escape v w))
 
 pub turned_unknown : (turn : Bool) → turned turn Unknown ≡ Unknown

@@ -1,7 +1,5 @@
 -- Values that are lent or were made, among the operands of a node.
-use Rattle.std.specs.Prelude.{◌≡◌, ⊤, All, List, Option, Some, None, Result, Ok, Err, IfOk, map}
-use Rattle.std.specs.Prelude.{slice_get}
-use Rattle.mc_typing.specs.declared.typed.Node.{Node-F}
+use Rattle.std.specs.Prelude.{◌≡◌, ⊤, All, List, Some, None, Result, Ok, Err, IfOk, map}
 use Rattle.mc_values.specs.declared.value.Value.{Value}
 use Rattle.mc_eval.specs.declared.fault.EvalFault.{EvalFault}
 use Rattle.mc_eval.specs.declared.fault.EvalFault.TheVariants.{OutOfRange, NoMemory}
@@ -13,13 +11,6 @@ use Rattle.mc_eval.specs.Outcomes.Outcome.{fault, gives}
 abbrev pub held_value : Held → Value
 held_value (Lent it) = it.now
 held_value (Made it) = it
-
--- The value of a node that is a constant, or that stands at its place of the row or the aggregates.
-abbrev pub lent_value : {X A : Type 0} → List Value → List Value → Node-F X A → Option Value
-lent_value row aggregates (Node-F.Const it) = Some it
-lent_value row aggregates (Node-F.Column place) = slice_get row place
-lent_value row aggregates (Node-F.Aggregate name distinct x place) = slice_get aggregates place
-lent_value row aggregates node = None
 
 -- An answer tells what comes of an operand, unless memory runs out.
 abbrev pub TellsHeld : Outcome → Result Held EvalFault → Type 0

@@ -14,8 +14,11 @@ use Rattle.mc_typing.specs.declared.typed.Node.{Node-F, out-Node}
 use Rattle.mc_typing.specs.declared.typed.TypedExpr.{TypedExpr}
 use Rattle.mc_values.specs.declared.value.Value.{Value}
 use Rattle.mc_values.specs.declared.value.Value.TheVariants as value
+use Rattle.mc_eval.specs.Node.{Place}
+use Rattle.mc_eval.specs.Outcomes.Outcome.{gives}
 use Rattle.mc_eval.specs.SetTexts.{set_text}
 use Rattle.mc_eval.specs.Texts.{chars_in, text_in}
+use Rattle.mc_eval.specs.Value.{value as value_of}
 use Rattle.mc_eval.specs.declared.column_comparisons.ColumnComparison.{ColumnComparison}
 use Rattle.mc_eval.specs.declared.column_matches.ColumnMatch.{ColumnMatch}
 use Rattle.mc_eval.specs.declared.forms.Form.{Form}
@@ -45,6 +48,14 @@ on_sides false operation column constant = operation column constant
 abbrev pub value_at : List Value → ℕ → Value
 value_at row place = option_map_or (λ it. it) (slice_get row place) value.Null
 
+-- In each row the expression has the value of the column at this place.
+abbrev pub IsColumn : TypedExpr → ℕ → Type 0
+IsColumn e place = (p : Place) → value_of p e ≡ gives (value_at p.row place)
+
+-- In each row the expression has this value.
+abbrev pub IsConstant : TypedExpr → Value → Type 0
+IsConstant e it = (p : Place) → value_of p e ≡ gives it
+
 -- The order of two texts in the set of a collation.
 abbrev pub flat_texts : Meaning → List ℕ → List ℕ → Ordering
 flat_texts m one other = list_order m.pad m.space
@@ -63,8 +74,8 @@ pub record IsComparison (meaning : ℕ → Meaning) (e : TypedExpr) (it : Column
   pub text : List ℕ
   pub node : out-Node e.node
       ≡ Node-F.Compare it.op (Some it.id) (on_sides it.text_first pair column constant)
-  pub place : out-Node column.node ≡ Node-F.Column it.place
-  pub literal : out-Node constant.node ≡ Node-F.Const (value.Str set text)
+  pub place : IsColumn column it.place
+  pub literal : IsConstant constant (value.Str set text)
   pub kept : set_text it.text ≡ text_in (meaning it.id.0).charset (value.Str set text)
   pub well_formed : IsWellFormed (meaning it.id.0).charset (set_text it.text)
 
@@ -77,8 +88,8 @@ pub record IsMatch (meaning : ℕ → Meaning) (e : TypedExpr) (it : ColumnMatch
   pub text : List ℕ
   pub node : out-Node e.node
       ≡ Node-F.Like (Some it.id) (pair column constant) escape it.negated
-  pub place : out-Node column.node ≡ Node-F.Column it.place
-  pub literal : out-Node constant.node ≡ Node-F.Const (value.Str set text)
+  pub place : IsColumn column it.place
+  pub literal : IsConstant constant (value.Str set text)
   pub charset : it.pattern.charset ≡ (meaning it.id.0).charset
   pub items : it.pattern.items
       ≡ items_of escape (chars_in (meaning it.id.0).charset (value.Str set text))

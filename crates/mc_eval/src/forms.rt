@@ -1,7 +1,9 @@
 ghost use Rattle.mc_charset.specs.Chars.{IsWellFormed};
 ghost use Rattle.mc_eval.specs.Fit.{fits};
-ghost use Rattle.mc_eval.specs.Prepared.{IsFormOf, on_sides, pair};
+ghost use Rattle.mc_eval.specs.Node.{Place};
+ghost use Rattle.mc_eval.specs.Prepared.{IsColumn, IsConstant, IsFormOf, on_sides, pair};
 ghost use Rattle.mc_eval.specs.Texts.{chars_in};
+ghost use Rattle.mc_eval.specs.Value.{value as value_of};
 ghost use Rattle.mc_like.specs.Items.{items_of};
 ghost use Rattle.mc_typing.specs.declared.typed.Node.{Node-F};
 ghost use Rattle.mc_typing.specs.declared.typed.Node.TheViews.{out-Node};
@@ -31,35 +33,63 @@ pub(crate) enum Form<'a> {
     Walked,
 }
 
-/// The place of a column.
-fn column_of(e: &TypedExpr) -> Option<u32>
-    ensures { IfSome result (λ place. out-Node e.now.node ≡ Node-F.Column place) }
+/// The expression, or the one that stands under its COLLATE, which has the same value.
+fn bare(e: &TypedExpr) -> &TypedExpr
+    ensures value { (p : Place) → value_of p e.now ≡ value_of p result.now }
+    ensures fits { (count : ℕ) → IsTrue (fits count e.now) → IsTrue (fits count result.now) }
 {
+    let Shape::One(inner) = parts(e) else {
+        return e;
+    };
     match &e.node {
-        Node::Column(place) => Some(*place),
+        Node::Collate(_) => inner,
+        _ => e,
+    }
+}
+
+/// A column has the value at its place of a row.
+fn column_law(e: &TypedExpr, place: u32)
+    requires { out-Node e.now.node ≡ Node-F.Column place }
+    ensures { IsColumn e.now place }
+{
+    let (_e, _place) = (e, place);
+}
+
+/// The place of a column, alone or under COLLATE.
+fn column_of(e: &TypedExpr) -> Option<u32>
+    ensures { IfSome result (IsColumn e.now) }
+{
+    let bare = bare(e);
+    match &bare.node {
+        Node::Column(place) => {
+            column_law(bare, *place);
+            Some(*place)
+        }
         _ => None,
     }
 }
 
-/// A constant of an expression that can be evaluated, where it is a text, is one of its set.
-fn text_law(e: &TypedExpr, charset: Charset, text: &Text)
+/// A literal has its value in each row; where it is a text, and the expression can be evaluated, it
+/// is one of its set.
+fn literal_law(e: &TypedExpr, charset: Charset, text: &Text)
     requires { out-Node e.now.node ≡ Node-F.Const (value.Str charset text.now) }
-    ensures { (count : ℕ) → IsTrue (fits count e.now) → IsWellFormed charset text.now }
+    ensures is { IsConstant e.now (value.Str charset text.now) }
+    ensures well_formed { (count : ℕ) → IsTrue (fits count e.now) → IsWellFormed charset text.now }
 {
     let (_e, _charset, _text) = (e, charset, text);
     chars_law();
 }
 
-/// The set and the text of a constant that is a text.
+/// The set and the text of a constant that is a text, alone or under COLLATE.
 fn text_of<'a>(e: &'a TypedExpr) -> Option<(Charset, &'a Text)>
-    ensures is { IfSome result (λ it.
-        out-Node e.now.node ≡ Node-F.Const (value.Str it.0 it.1.now)) }
+    ensures is { IfSome result (λ it. IsConstant e.now (value.Str it.0 it.1.now)) }
     ensures well_formed { (count : ℕ) → IsTrue (fits count e.now)
         → IfSome result (λ it. IsWellFormed it.0 it.1.now) }
 {
-    match &e.node {
+    let bare = bare(e);
+    match &bare.node {
         Node::Const(Value::Str { charset, text }) => {
-            text_law(e, *charset, text);
+            literal_law(bare, *charset, text);
             Some((*charset, text))
         }
         _ => None,
@@ -82,8 +112,8 @@ fn with_text<'a, B: Book>(
     ensures { (e column constant : Expr)
         → out-Node e.node
         ≡ Node-F.Compare op (Some id) (on_sides text_first pair column constant)
-        → out-Node column.node ≡ Node-F.Column place
-        → out-Node constant.node ≡ Node-F.Const (value.Str charset text.now)
+        → IsColumn column place
+        → IsConstant constant (value.Str charset text.now)
         → IfOk result (IsFormOf (B.meaning book.now) e) }
 {
     let set = book.by_id(id).charset();

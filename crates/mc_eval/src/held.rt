@@ -7,16 +7,14 @@ use std::alloc::Global;
 
 /// The value of an operand: lent by the row or by the expression, or made.
 #[derive(Drop)]
-pub enum Held<'a> {
-    /// A value of the row or of the expression.
+pub(crate) enum Held<'a> {
     Lent(&'a Value),
-    /// A value of its own.
     Made(Value),
 }
 
 impl<'a> Held<'a> {
     /// The value.
-    pub fn get(&self) -> &Value
+    pub(crate) fn get(&self) -> &Value
         ensures { result.now ≡ held_value self.now }
     {
         match self {
@@ -26,7 +24,7 @@ impl<'a> Held<'a> {
     }
 
     /// The value, copied where it is lent.
-    pub fn into_value(self, alloc: Global) -> Result<Value, NoMemory>
+    pub(crate) fn into_value(self, alloc: Global) -> Result<Value, NoMemory>
         ensures { IfOk result (λ value. value ≡ held_value self.entry) }
     {
         match self {

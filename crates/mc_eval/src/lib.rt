@@ -1,8 +1,9 @@
 //! Values of typed expressions in a row: MySQL 8.0 manual, 12.
 //!
-//! [`eval`] gives the value of an expression in a row, [`accepts`] tells whether a list of conjuncts
-//! accepts a row; where there are many rows, [`prepare`] makes the conjuncts ready once, and
-//! [`accepts_prepared`] tells the same of them. [`lend`] lends a value that needs no evaluation.
+//! [`eval`] gives the value of an expression in a row, [`accepts`] tells whether conjuncts accept a
+//! row; where there are many rows, [`prepare`] makes the conjuncts ready once, and
+//! [`accepts_prepared`] tells the same of them.
+//!
 //! `specs/Value` says what comes of an expression in a row, a value or a fault: of its node over
 //! what comes of its operands, by the cases of `specs/Node`. `specs/Truths`, `Arithmetic`,
 //! `Comparisons`, `Matches`, `TextFunctions`, `Functions` and `Weights` have the operations,
@@ -53,9 +54,7 @@ mod values;
 mod walk;
 mod weights;
 
-pub use constants::lend;
 pub use fault::EvalFault;
-pub use held::Held;
 pub use laws::{evaluation_law, operations_law};
 pub use prepared::{Prepared, accepts_prepared, prepare};
 pub use truth::Truth;

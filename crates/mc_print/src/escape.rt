@@ -4,6 +4,9 @@ ghost use Rattle.std.specs.Prelude.{◌≡◌, ◌≤◌, ◌++◌, OnOk, length
 
 use mc_base::{NoMemory, Text};
 
+/// How many bytes are looked at in one step.
+const BLOCK: usize = 32;
+
 /// Appends a header or a text as it is written.
 // The bytes between two escapes are copied as one slice.
 #[tactic(auto, unfolding(crate::specs::Escapes::as_written))]
@@ -34,9 +37,6 @@ fn plain_len(text: &[u8]) -> usize
     passed + first_escape(&text[passed..])
 }
 
-/// How many bytes are looked at in one step.
-const BLOCK: usize = 32;
-
 /// Whether no byte of a block is written by an escape.
 // Neither this nor `is_escaped` leaves early, so that compilers make vector steps of the loop.
 fn is_plain(block: &[u8]) -> bool
@@ -49,7 +49,7 @@ fn is_plain(block: &[u8]) -> bool
     !found
 }
 
-/// The same, byte by byte.
+/// The place of the first byte that is written by an escape, or the length, byte by byte.
 fn first_escape(text: &[u8]) -> usize
     ensures len { result ≡ position_or_len is_escaped text.now }
     ensures within { result ≤ length text.now }

@@ -7,8 +7,8 @@
 //! can be told apart and each text can be read back. A refusal is `ERROR NUMBER: TEXT` in a line.
 //! `specs/Lines` says all this.
 //!
-//! Read the modules in this order: `escape`, `cell`, `table` (`answer_text`, `push_answer`), `refused`
-//! (`refusal_text`), `laws`.
+//! Read the modules in this order: `escape`, `cell`, `table` (`answer_text`, `push_answer`),
+//! `refused` (`refusal_text`), `laws`.
 #![tactic(auto)]
 
 mod cell;

@@ -26,7 +26,8 @@ pub fn answer_text(alloc: Global, answer: &Answer) -> Result<Text, NoMemory>
     Ok(text)
 }
 
-/// Appends the answer as it is written, so that one text can take many answers in turn.
+/// Appends the answer as it is written, so that one text can take many answers in turn. Where memory
+/// runs out, a part of it may stand there.
 #[tactic(auto, unfolding(crate::specs::Lines::answer_text))]
 pub fn push_answer(alloc: Global, out: &mut Text, answer: &Answer) -> Result<(), NoMemory>
     requires { All (All IsTextOfSet) answer.now.rows }
