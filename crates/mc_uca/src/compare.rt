@@ -210,8 +210,8 @@ impl Weigher {
         let direct = self.direct.on(level);
         let mut left = a;
         let mut right = b;
-        while let Some(first) = self.front_weight::<E>(direct, left) {
-            let Some(second) = self.front_weight::<E>(direct, right) else {
+        while let Some(first) = self.first_weight::<E>(direct, left) {
+            let Some(second) = self.first_weight::<E>(direct, right) else {
                 return self.compare_pieces::<E>(left, right, level, space);
             };
             if first.weight != second.weight {

@@ -68,9 +68,9 @@ impl<'a, E: Encoding> TextWeights<'a, E> {
             (λ weight. ⟦<TextWeights<'a, E> as WeightStream>⟧.left self.old
             ≡ weight ∷ ⟦<TextWeights<'a, E> as WeightStream>⟧.left self.new) }
     {
-        let front = self.weigher.front_weight::<E>(self.direct, self.text)?;
-        self.text = front.behind;
-        Some(u32::from(front.weight))
+        let first = self.weigher.first_weight::<E>(self.direct, self.text)?;
+        self.text = first.behind;
+        Some(u32::from(first.weight))
     }
 
     /// The next weight of the piece at hand, or of the next ones.

@@ -8,9 +8,9 @@
 //!
 //! Read `kind`, `fault` and `collation`; then `weigher`, which has the table, `reach`, `inner`,
 //! `codes` and `piece`, by which a text is cut, `pending`, `text` and `stream`, which give its
-//! elements and its weights one after the other, `flat` and `weights`, level by level; `direct` and
-//! `cursor`, which give the weights of one level, at once where a character has one; then
-//! `compare`, `chars`, `put`, and `code_elements`, `tails`, `heads`, `floor`, `space` and
+//! elements and its weights one after the other, `flat` and `weights`, level by level; `direct`,
+//! `first_weight` and `cursor`, which give the weights of one level, at once where a character has
+//! one; then `compare`, `chars`, `put`, and `code_elements`, `tails`, `heads`, `floor`, `space` and
 //! `findings`, by which a collation is made.
 #![tactic(auto)]
 
@@ -23,9 +23,9 @@ mod cursor;
 mod direct;
 mod fault;
 mod findings;
+mod first_weight;
 mod flat;
 mod floor;
-mod front;
 mod heads;
 mod inner;
 mod kind;

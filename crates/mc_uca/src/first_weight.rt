@@ -9,7 +9,7 @@ use mc_charset::{CharAt, Encoding, next_in};
 
 /// The weight that a text begins with on a level.
 #[derive(Clone, Copy)]
-pub(crate) struct FrontWeight<'a> {
+pub(crate) struct FirstWeight<'a> {
     /// The weight: the only one of the text's first character.
     pub(crate) weight: u16,
     /// The text behind that character.
@@ -20,17 +20,17 @@ impl Weigher {
     /// The weight of the character that begins the text, where it has one and is a piece by itself.
     /// `direct` is what is noted for the level.
     #[inline(always)]
-    pub(crate) fn front_weight<'a, E: Encoding>(
+    pub(crate) fn first_weight<'a, E: Encoding>(
         &self,
         direct: &[DirectWeight],
         text: &'a [u8],
-    ) -> Option<FrontWeight<'a>>
+    ) -> Option<FirstWeight<'a>>
         requires { E.set ≡ self.now.charset }
         ensures weight { let list = uca_list self.now.charset self.now.kind self.now.keys in
-            IfSome result (λ front. (level : ℕ) → direct.now ≡ direct_on self.now.direct level →
+            IfSome result (λ first. (level : ℕ) → direct.now ≡ direct_on self.now.direct level →
             list level (chars E.set text.now)
-            ≡ front.weight ∷ list level (chars E.set front.behind.now)) }
-        ensures shorter { IfSome result (λ front. length front.behind.now < length text.now) }
+            ≡ first.weight ∷ list level (chars E.set first.behind.now)) }
+        ensures shorter { IfSome result (λ first. length first.behind.now < length text.now) }
     {
         let CharAt::Char { code, len } = next_in::<E>(text) else {
             return None;
@@ -43,7 +43,7 @@ impl Weigher {
         if noted.is_head && !self.is_fresh::<E>(behind) {
             return None;
         }
-        Some(FrontWeight {
+        Some(FirstWeight {
             weight: noted.weight,
             behind,
         })
