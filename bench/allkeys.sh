@@ -13,7 +13,7 @@
 # where it isn't to be ./mycoll.
 set -e
 top=$(cd "$(dirname "$0")/.." && pwd)
-mycoll=$(realpath "${MYCOLL:-$top/mycoll}")
+mycoll=$(realpath "${MYCOLL:-$("$top/bench/program.sh")}")
 folder=$(mktemp -d)
 trap 'rm -rf "$folder"' EXIT
 export LC_ALL=C

@@ -16,11 +16,11 @@
 # that differs, and that time is taken away. ICU's program measures its comparisons alone. The
 # quickest of five runs each counts. Aims, mycoll's rate to ICU's: 2 for Latin and Cyrillic names
 # that differ, 1 elsewhere at one level, 0.8 at three; each ratio is printed beside its aim, and at
-# the end how many reach it. MYCOLL names the program where it isn't to be ./mycoll.
+# the end how many reach it. MYCOLL names the program where it isn't to be the one that ./mycoll runs.
 set -e
 [ $# = 1 ] || { sed -n '5s/^# *//p' "$0"; exit 2; }
 top=$(cd "$(dirname "$0")/.." && pwd)
-mycoll=$(realpath "${MYCOLL:-$top/mycoll}")
+mycoll=$(realpath "${MYCOLL:-$("$top/bench/program.sh")}")
 table=$(realpath "$1")
 folder=$(mktemp -d)
 trap 'rm -rf "$folder"' EXIT

@@ -13,10 +13,10 @@
 # for latin1 and ascii, 512 KiB for utf8mb4, and 131,072 characters for utf32; and a script has as
 # many statements as fit 15 MB.
 #
-# MYCOLL names the program where it isn't to be ./mycoll.
+# MYCOLL names the program where it isn't to be the one that ./mycoll runs.
 set -e
 top=$(cd "$(dirname "$0")/.." && pwd)
-mycoll=${MYCOLL:-$top/mycoll}
+mycoll=${MYCOLL:-$("$top/bench/program.sh")}
 sets=("$@")
 [ "$#" != 0 ] || sets=(latin1 ascii utf8mb3 utf8mb4 ucs2 utf16 utf32 binary)
 folder=$(mktemp -d)

@@ -11,10 +11,10 @@
 # Their texts are drawn from ASCII letters and letters of two and three bytes, in an order that
 # doesn't repeat; what they give is below the greatest length of a string, 1,048,576 bytes.
 #
-# MYCOLL names the program where it isn't to be ./mycoll.
+# MYCOLL names the program where it isn't to be the one that ./mycoll runs.
 set -e
 top=$(cd "$(dirname "$0")/.." && pwd)
-mycoll=${MYCOLL:-$top/mycoll}
+mycoll=${MYCOLL:-$("$top/bench/program.sh")}
 functions=("$@")
 [ "$#" != 0 ] || functions=(REPEAT REPLACE CONCAT LPAD TRIM SUBSTRING)
 folder=$(mktemp -d)

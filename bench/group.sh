@@ -11,7 +11,7 @@
 #
 # Where MariaDB is on the machine, a server of this script's own answers the same statements from a
 # table in its MEMORY engine; its times are those that SHOW PROFILES tells, the quickest of five. Aim:
-# at most half of them. MYCOLL names the program where it isn't to be ./mycoll.
+# at most half of them. MYCOLL names the program where it isn't to be the one that ./mycoll runs.
 set -e
 rows=${1:-200000}
 . "$(dirname "$0")/rows.sh"

@@ -14,7 +14,8 @@
 #
 # Where MariaDB is on the machine, a server of this script's own answers the same statements from a
 # table in its MEMORY engine with a BTREE index; its times are those that SHOW PROFILES tells, the
-# quickest of five. Aim: faster than these. MYCOLL names the program where it isn't to be ./mycoll.
+# quickest of five. Aim: faster than these. MYCOLL names the program where it isn't to be the one that
+# ./mycoll runs.
 set -e
 rows=${1:-200000}
 . "$(dirname "$0")/rows.sh"

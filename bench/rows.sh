@@ -5,7 +5,7 @@
 # that is made here; and, where MariaDB is on the machine (mariadbd and mariadb), a server of the
 # script's own with the same rows in its MEMORY engine, without an index, in utf8mb4_unicode_ci.
 top=$(cd "$(dirname "$0")/.." && pwd)
-mycoll=$(realpath "${MYCOLL:-$top/mycoll}")
+mycoll=$(realpath "${MYCOLL:-$("$top/bench/program.sh")}")
 folder=$(mktemp -d)
 server_id=
 clean_up() {

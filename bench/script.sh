@@ -11,7 +11,7 @@
 #     bench/script.sh [STATEMENTS]
 set -e
 top=$(cd "$(dirname "$0")/.." && pwd)
-mycoll=$(realpath "${MYCOLL:-$top/mycoll}")
+mycoll=$(realpath "${MYCOLL:-$("$top/bench/program.sh")}")
 count=${1:-200000}
 folder=$(mktemp -d)
 trap 'rm -rf "$folder"' EXIT

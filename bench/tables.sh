@@ -15,10 +15,10 @@
 # at most twice the Rust program's time.
 #
 # The two programs take turns, what they write goes nowhere, and the quickest of five runs each
-# counts. MYCOLL names the program where it isn't to be ./mycoll.
+# counts. MYCOLL names the program where it isn't to be the one that ./mycoll runs.
 set -e
 top=$(cd "$(dirname "$0")/.." && pwd)
-mycoll=$(realpath "${MYCOLL:-$top/mycoll}")
+mycoll=$(realpath "${MYCOLL:-$("$top/bench/program.sh")}")
 folder=$(mktemp -d)
 trap 'rm -rf "$folder"' EXIT
 export LC_ALL=C
